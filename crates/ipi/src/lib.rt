@@ -1,0 +1,140 @@
+// Which CPUs get an interrupt when a thread becomes ready: those that run something less important and that the thread may run on.
+//
+// Upstream: src/ipi.rs; compute_ipi_mask and validate_ipi_mask keep their names.
+// The two slices of upstream are one array of sixteen CPU records by value; records from num_cpus on are not looked at. Upstream promises
+// nothing of the mask; here its value is exact, and proofs/Laws.antt says of every bit when it is set. A lower number is more important.
+ghost use mathlib.Core.Path.{_≡_};
+ghost use Prim.Native.Nat.{_≤_, _<_};
+ghost use Rattle.error.specs.Answer.{yesNoSays};
+ghost use Rattle.words.specs.Bit.{bitsOf};
+ghost use Rattle.ipi.specs.Ipi.{gets, eligible, ipiSays, computeIpiMask, validateIpiMask};
+use error::Code;
+use error::YesNo;
+
+// Upstream's MAX_CPUS of this file: how many CPUs an interrupt mask covers.
+pub const MAX_IPI_CPUS: u32 = 16;
+
+// One CPU: whether it is up, and the priority of what it runs.
+pub struct CpuRecord {
+    pub active: bool,
+    pub priority: i32,
+}
+
+// The CPUs to interrupt, or none with the code of the refusal.
+pub struct IpiMask {
+    pub code: Code,
+    pub mask: u32,
+}
+
+// Whether the CPU with this record gets the interrupt.
+fn gets_ipi(
+    current_cpu: u32,
+    target_prio: i32,
+    target_cpu_mask: u32,
+    idx: u32,
+    cpu: CpuRecord,
+) -> bool
+    requires { ⌜ idx < 32 ⌝ }
+    ensures { λ r. ⌜ r ≡ gets «current_cpu» «target_prio» «target_cpu_mask» idx cpu ⌝ }
+{
+    if idx == current_cpu {
+        return false;
+    }
+    let active = cpu.active;
+    if !active {
+        return false;
+    }
+    let bit = 1u32 << idx;
+    if target_cpu_mask & bit == 0 {
+        return false;
+    }
+    let priority = cpu.priority;
+    target_prio < priority
+}
+
+// The bits of the CPUs below num_cpus that get the interrupt.
+fn eligible_cpus(
+    current_cpu: u32,
+    target_prio: i32,
+    target_cpu_mask: u32,
+    cpus: [CpuRecord; 16],
+    num_cpus: u32,
+) -> u32
+    requires { ⌜ «num_cpus» ≤ 16 ⌝ }
+    ensures { λ r. ⌜ r ≡ bitsOf (eligible «current_cpu» «target_prio» «target_cpu_mask» cpus) «num_cpus» ⌝ }
+{
+    let mut mask: u32 = 0;
+    let mut idx: u32 = 0;
+    while idx < num_cpus {
+        let at = idx as usize;
+        let cpu = cpus[at];
+        if gets_ipi(current_cpu, target_prio, target_cpu_mask, idx, cpu) {
+            mask = mask | (1u32 << idx);
+        }
+        idx += 1;
+    }
+    mask
+}
+
+// The mask of the CPUs to interrupt for a thread of this priority and affinity.
+pub fn compute_ipi_mask(
+    current_cpu: u32,
+    target_prio: i32,
+    target_cpu_mask: u32,
+    cpus: [CpuRecord; 16],
+    num_cpus: u32,
+    max_cpus: u32,
+) -> IpiMask
+    ensures { λ r. ⌜ ipiSays r ≡ computeIpiMask «current_cpu» «target_prio» «target_cpu_mask» cpus «num_cpus» «max_cpus» ⌝ }
+{
+    if max_cpus > MAX_IPI_CPUS {
+        return IpiMask {
+            code: Code::Einval,
+            mask: 0,
+        };
+    }
+    if num_cpus > max_cpus {
+        return IpiMask {
+            code: Code::Einval,
+            mask: 0,
+        };
+    }
+    if current_cpu >= num_cpus {
+        return IpiMask {
+            code: Code::Einval,
+            mask: 0,
+        };
+    }
+    IpiMask {
+        code: Code::Ok,
+        mask: eligible_cpus(current_cpu, target_prio, target_cpu_mask, cpus, num_cpus),
+    }
+}
+
+// Whether a mask can be one that was computed for this CPU: it spares the CPU itself and names none from max_cpus on.
+pub fn validate_ipi_mask(mask: u32, current_cpu: u32, max_cpus: u32) -> YesNo
+    ensures { λ r. ⌜ yesNoSays r ≡ validateIpiMask mask «current_cpu» «max_cpus» ⌝ }
+{
+    if max_cpus > MAX_IPI_CPUS {
+        return YesNo {
+            code: Code::Einval,
+            yes: false,
+        };
+    }
+    if current_cpu >= max_cpus {
+        return YesNo {
+            code: Code::Einval,
+            yes: false,
+        };
+    }
+    if mask & (1u32 << current_cpu) != 0 {
+        return YesNo {
+            code: Code::Ok,
+            yes: false,
+        };
+    }
+    YesNo {
+        code: Code::Ok,
+        yes: mask >> max_cpus == 0,
+    }
+}

@@ -1,0 +1,64 @@
+-- 01, "Marked examples": one table, one claim. Each row is an example's number, what a rule gives, and what 01 says that it gives; the claim
+-- is that the two are equal in every row. It is closed by computing
+-- (proofs/Marked.antt).
+use mathlib.Core.Path.{_≡_}
+use mathlib.Core.Bool.{Bool, true, false}
+use mathlib.Core.List.{List, [], _∷_}
+use Prim.Native.Nat.{ℕ}
+use lib.IntN.{pos}
+use Rattle.error.specs.Codes.{OK, EBUSY, EINVAL}
+use Rattle.error.specs.Answer.{answer}
+use Rattle.spinlock_validate.specs.Owner.{tagBits, nobody, heldBy, spinLockComputeOwner, spinLockDecodeOwner, spinLockValid}
+use Rattle.spinlock.specs.Lock.{acquireNested}
+use Rattle.spinlock.specs.declared.Owner.the-variants.{Thread}
+use Rattle.spinlock.specs.declared.SpinlockState.{SpinlockState}
+use Rattle.cpu_mask.specs.Mask.{cpuMaskMod, cpuPinCompute}
+use Rattle.ipi.specs.Ipi.{computeIpiMask}
+use Rattle.ipi.specs.declared.CpuRecord.{CpuRecord}
+
+-- A row: example n, what a rule gives and what it should give.
+pub data Row : Type 1 where
+  M : ℕ → {A : Type 0} → A → A → Row
+
+-- Every row of the table holds.
+unfoldable pub Holds : List Row → Type 0
+Holds [] = Unit
+Holds (M n found expected ∷ rows) = (found ≡ expected) × Holds rows
+
+-- All 32 bits.
+unfoldable pub all : ℕ
+all = 0xffff_ffff
+
+-- The lock record of thread 9 at a depth.
+unfoldable pub at : ℕ → SpinlockState
+at depth = record { owner = Thread 9; «nest_count» = depth; «irq_saved» = true }
+
+-- One CPU.
+unfoldable pub cpu : Bool → ℕ → CpuRecord
+cpu active priority = record { active = active; priority = pos priority }
+
+-- M9's CPUs: priorities 9 9 5 9, CPU 3 inactive.
+unfoldable pub cpus : List CpuRecord
+cpus = cpu true 9 ∷ cpu true 9 ∷ cpu true 5 ∷ cpu false 9 ∷ []
+
+-- The examples. M11 is the worked log of the machine.
+unfoldable pub table : List Row
+table =
+    M 1 (spinLockComputeOwner tagBits 3 8) (answer OK 11)
+    ∷ M 1 (spinLockDecodeOwner tagBits 11) (answer OK (heldBy 8 3))
+    ∷ M 2 (spinLockDecodeOwner tagBits 3) (answer EINVAL nobody)
+    ∷ M 2 (spinLockDecodeOwner tagBits 0) (answer OK nobody)
+    ∷ M 3 (spinLockValid tagBits 2 2) (answer OK false)
+    ∷ M 4 (cpuMaskMod 5 2 1 false false) (answer OK 6)
+    ∷ M 4 (cpuMaskMod 5 2 1 false true) (answer EINVAL 5)
+    ∷ M 5 (cpuMaskMod 1 8 8 false false) (answer OK 1)
+    ∷ M 6 (cpuMaskMod 5 0 all false false) (answer OK 0)
+    ∷ M 6 (cpuMaskMod 5 0 all false true) (answer EINVAL 5)
+    ∷ M 7 (cpuPinCompute 31 32) (answer OK 2147483648)
+    ∷ M 7 (cpuPinCompute 32 33) (answer EINVAL 0)
+    ∷ M 7 (cpuPinCompute 0 0) (answer EINVAL 0)
+    ∷ M 8 (acquireNested (at 254) 9) (answer OK (at 255))
+    ∷ M 8 (acquireNested (at 255) 9) (answer EBUSY (at 255))
+    ∷ M 9 (computeIpiMask 0 (pos 5) 15 cpus 4 4) (answer OK 2)
+    ∷ M 10 (computeIpiMask 0 (pos 2147483647) 15 cpus 4 4) (answer OK 0)
+    ∷ []

@@ -1,0 +1,157 @@
+// The calls on one lock record.
+use crate::show;
+use error::YesNo;
+use spinlock::Changed;
+use spinlock::Operation;
+use spinlock::Owner;
+use spinlock::Situation;
+use spinlock::SpinlockState;
+
+const DEPTHS: [u32; 10] = [0, 1, 2, 3, 4, 254, 255, 256, 0x8000_0000, 0xffff_ffff];
+
+const THREADS: [u32; 3] = [0, 7, 0xffff_ffff];
+
+fn owner(o: Owner) {
+    match o {
+        Owner::None => show::text(b" owner none"),
+        Owner::Thread(t) => show::argument(b"owner", t as u64),
+    }
+}
+
+fn state(s: SpinlockState) {
+    let o = s.owner;
+    owner(o);
+    show::argument(b"depth", s.nest_count as u64);
+    show::flag(b"irq", s.irq_saved);
+}
+
+// The call's name, the record and the thread that asks.
+fn asked(name: &[u8], s: SpinlockState, tid: u32) {
+    show::text(name);
+    state(s);
+    show::argument(b"thread", tid as u64);
+}
+
+fn changed(name: &[u8], s: SpinlockState, tid: u32, r: Changed) {
+    asked(name, s, tid);
+    let code = r.code;
+    show::code(code);
+    let after = r.state;
+    state(after);
+    show::end();
+}
+
+fn answered(name: &[u8], s: SpinlockState, tid: u32, r: YesNo) {
+    asked(name, s, tid);
+    let code = r.code;
+    show::code(code);
+    show::yes_or_no(r.yes);
+    show::end();
+}
+
+// Every call by one thread on one record.
+fn by_thread(s: SpinlockState, tid: u32) {
+    situation(s, tid);
+    changed(b"acquire", s, tid, s.acquire(tid));
+    changed(b"acquire_nested", s, tid, s.acquire_nested(tid));
+    changed(b"release", s, tid, s.release(tid));
+    answered(b"acquire_check", s, tid, s.acquire_check(tid));
+    answered(b"release_check", s, tid, s.release_check(tid));
+    answered(b"is_owner", s, tid, s.is_owner(tid));
+}
+
+fn read(name: &[u8], s: SpinlockState, r: YesNo) {
+    show::text(name);
+    state(s);
+    let code = r.code;
+    show::code(code);
+    show::yes_or_no(r.yes);
+    show::end();
+}
+
+fn depth(s: SpinlockState) {
+    show::text(b"nest_depth");
+    state(s);
+    let r = s.nest_depth();
+    let code = r.code;
+    show::code(code);
+    show::argument(b"depth", r.depth as u64);
+    show::end();
+}
+
+fn owner_of(s: SpinlockState) {
+    show::text(b"owner_get");
+    state(s);
+    let r = s.owner_get();
+    let code = r.code;
+    show::code(code);
+    let o = r.owner;
+    owner(o);
+    show::end();
+}
+
+fn validity(s: SpinlockState) {
+    show::text(b"valid");
+    state(s);
+    show::text(b":");
+    show::yes_or_no(s.valid());
+    show::end();
+}
+
+// What the record is to a thread, with the codes that the table has for that.
+fn situation(s: SpinlockState, tid: u32) {
+    asked(b"situation", s, tid);
+    let situation = s.situation(tid);
+    match situation {
+        Situation::Free => show::text(b": free"),
+        Situation::Own => show::text(b": own"),
+        Situation::Full => show::text(b": full"),
+        Situation::Foreign => show::text(b": foreign"),
+    }
+    show::text(b", acquire");
+    show::code(spinlock::code_of(Operation::Acquire, situation));
+    show::text(b", nested");
+    show::code(spinlock::code_of(Operation::Nested, situation));
+    show::text(b", release");
+    show::code(spinlock::code_of(Operation::Release, situation));
+    show::end();
+}
+
+fn on_record(s: SpinlockState) {
+    validity(s);
+    read(b"is_held", s, s.is_held());
+    read(b"is_free", s, s.is_free());
+    depth(s);
+    owner_of(s);
+    for i in 0..3 {
+        by_thread(s, THREADS[i]);
+    }
+}
+
+fn at_depth(nest_count: u32, irq_saved: bool) {
+    on_record(SpinlockState {
+        owner: Owner::None,
+        nest_count,
+        irq_saved,
+    });
+    on_record(SpinlockState {
+        owner: Owner::Thread(7),
+        nest_count,
+        irq_saved,
+    });
+}
+
+fn fresh() {
+    show::text(b"new:");
+    state(SpinlockState::new());
+    show::end();
+}
+
+pub(crate) fn all() {
+    fresh();
+    for i in 0..10 {
+        let nest_count = DEPTHS[i];
+        at_depth(nest_count, false);
+        at_depth(nest_count, true);
+    }
+}

@@ -1,0 +1,239 @@
+-- Laws of one lock record, real heirs of upstream's lemmas: every operation keeps validity, a refusal changes nothing, a release undoes an
+-- acquire of either kind, n nested acquires take n releases, and a plain acquire of a held lock is refused to every thread. An operation on
+-- a valid record goes by what the record is to the thread (`view`). Assumes nothing.
+use mathlib.Core.Path.{_≡_, refl, sym, ap, _∙_}
+use mathlib.Core.Logic.{_⊎_, inl, inr}
+use mathlib.Core.Bool.{true, false, cond, false≢true}
+use Prim.Native.Nat.{ℕ, zero, suc, _+_, _-_, _≤_, _<_}
+use native.Mathlib.Numerals.{add-one}
+use native.Mathlib.Omega.{arith}
+use lib.Dec.{eqb, lit<, lit≤}
+use lib.IntN.{pos-ne-negsuc}
+use borrow.Author.Tests.{lt-ltb, le-leb, eq-eqb, ne-eqb, eqb-false}
+use Rattle.error.specs.Codes.{OK, EBUSY, EINVAL}
+use Rattle.error.specs.Answer.{Answer, answer}
+use Rattle.error.proofs.Answers.{same-code}
+use Rattle.words.proofs.Choice.{bool-ind, below-or}
+use Rattle.spinlock.specs.Table.{codeOf}
+use Rattle.spinlock.specs.Lock.{maxNestDepth, freeRecord, takenBy, deeper, shallower, validRecord, situationOf, after, operate, acquire, acquireNested, release, held, read, isFree}
+use Rattle.spinlock.specs.declared.Owner.the-variants.{Thread}
+use Rattle.spinlock.specs.declared.SpinlockState.{SpinlockState}
+use Rattle.spinlock.specs.declared.Operation.{Operation}
+use Rattle.spinlock.specs.declared.Operation.the-variants.{Acquire, Nested, Release}
+use Rattle.spinlock.specs.declared.Situation.{Situation}
+use Rattle.spinlock.specs.declared.Situation.the-variants.{Free, Own, Full, Foreign}
+use Rattle.spinlock.proofs.Situations.{HeldBy, View, free, own, full, foreign, view, below-is-own, deepest-is-full}
+
+-- An operation on a valid record, by its situation.
+pub operated : (op : Operation) (s : SpinlockState) (tid : ℕ) {sit : Situation} → validRecord s ≡ true → situationOf s tid ≡ sit
+    → operate op s tid ≡ answer (codeOf op sit) (after op sit s tid)
+unfolding operate
+operated op s tid valid e = rw (valid, e)
+
+-- An invalid record comes back as given.
+pub invalid-refused : (op : Operation) (s : SpinlockState) (tid : ℕ) → validRecord s ≡ false → operate op s tid ≡ answer EINVAL s
+unfolding operate
+invalid-refused op s tid bad = rw bad
+
+-- ---- validity is kept
+
+pub held-valid : (s : SpinlockState) (tid : ℕ) → s .owner ≡ Thread tid → 0 < s .«nest_count» → s .«nest_count» ≤ maxNestDepth → validRecord s ≡ true
+unfolding validRecord
+held-valid s tid owner some most = simp (owner, lt-ltb 0 (s .«nest_count») some, le-leb (s .«nest_count») maxNestDepth most)
+
+shallower-valid : (s : SpinlockState) (tid : ℕ) → HeldBy s tid → validRecord (shallower s) ≡ true
+unfolding validRecord
+shallower-valid s tid mine =
+    bool-ind
+    (λ b. validRecord (cond b freeRecord (record { owner = s .owner; «nest_count» = s .«nest_count» - 1; «irq_saved» = s .«irq_saved» })) ≡ true)
+    (eqb (s .«nest_count») 1) (λ _. refl) (λ more.
+    let some = mine .some in
+    let most = mine .most in
+    let two : s .«nest_count» ≡ 1 → ⊥ = eqb-false (s .«nest_count») 1 more in
+    held-valid (record { owner = s .owner; «nest_count» = s .«nest_count» - 1; «irq_saved» = s .«irq_saved» }) tid (mine .owner) (omega arith) (omega arith))
+
+after-valid : (op : Operation) (s : SpinlockState) (tid : ℕ) {sit : Situation} → validRecord s ≡ true → View s tid sit
+    → validRecord (after op sit s tid) ≡ true
+unfolding after validRecord
+after-valid Acquire s tid valid (free _) = refl
+after-valid Acquire s tid valid (own _ _) = valid
+after-valid Acquire s tid valid (full _ _) = valid
+after-valid Acquire s tid valid (foreign _ _ _) = valid
+after-valid Nested s tid valid (free _) = refl
+after-valid Nested s tid valid (own mine below) =
+    let more : s .«nest_count» + 1 ≤ maxNestDepth = omega arith in
+    held-valid (deeper s) tid (mine .owner) (omega arith) more
+after-valid Nested s tid valid (full _ _) = valid
+after-valid Nested s tid valid (foreign _ _ _) = valid
+after-valid Release s tid valid (free _) = valid
+after-valid Release s tid valid (own mine _) = shallower-valid s tid mine
+after-valid Release s tid valid (full mine _) = shallower-valid s tid mine
+after-valid Release s tid valid (foreign _ _ _) = valid
+
+-- Upstream's lemma_invariant_inductive: an operation makes no valid record invalid, and no invalid record valid.
+pub operate-keeps-valid : (op : Operation) (s : SpinlockState) (tid : ℕ) → validRecord (operate op s tid .value) ≡ validRecord s
+operate-keeps-valid op s tid =
+    bool-ind (λ b. validRecord s ≡ b → validRecord (operate op s tid .value) ≡ b) (validRecord s)
+    (λ _ valid. ap (λ (a : Answer SpinlockState). validRecord (a .value)) (operated op s tid valid refl) ∙ after-valid op s tid valid (view s tid valid))
+    (λ _ bad. ap (λ (a : Answer SpinlockState). validRecord (a .value)) (invalid-refused op s tid bad) ∙ bad) refl
+
+-- ---- a refusal changes nothing
+
+after-refused : (op : Operation) (sit : Situation) (s : SpinlockState) (tid : ℕ) → (codeOf op sit ≡ OK → ⊥) → after op sit s tid ≡ s
+unfolding codeOf after
+after-refused Acquire Free s tid h = absurd (h refl)
+after-refused Acquire Own s tid h = refl
+after-refused Acquire Full s tid h = refl
+after-refused Acquire Foreign s tid h = refl
+after-refused Nested Free s tid h = absurd (h refl)
+after-refused Nested Own s tid h = absurd (h refl)
+after-refused Nested Full s tid h = refl
+after-refused Nested Foreign s tid h = refl
+after-refused Release Free s tid h = refl
+after-refused Release Own s tid h = absurd (h refl)
+after-refused Release Full s tid h = absurd (h refl)
+after-refused Release Foreign s tid h = refl
+
+pub refused-unchanged : (op : Operation) (s : SpinlockState) (tid : ℕ) → (operate op s tid .code ≡ OK → ⊥) → operate op s tid .value ≡ s
+unfolding operate
+refused-unchanged op s tid =
+    bool-ind
+    (λ b.
+    let a = cond b (answer (codeOf op (situationOf s tid)) (after op (situationOf s tid) s tid)) (answer EINVAL s) in
+    (a .code ≡ OK → ⊥) → a .value ≡ s)
+    (validRecord s) (λ _ h. after-refused op (situationOf s tid) s tid h) (λ _ h. refl)
+
+-- ---- a release undoes an acquire
+
+-- A release by the owner gives back one level.
+pub release-held : (s : SpinlockState) (tid : ℕ) → HeldBy s tid → release s tid ≡ answer OK (shallower s)
+unfolding codeOf after
+release-held s tid mine = by-depth (held-valid s tid (mine .owner) (mine .some) (mine .most)) (below-or (s .«nest_count») maxNestDepth)
+  where
+    by-depth : validRecord s ≡ true → (s .«nest_count» < maxNestDepth) ⊎ (maxNestDepth ≤ s .«nest_count») → release s tid ≡ answer OK (shallower s)
+    by-depth valid (inl below) = operated Release s tid valid (below-is-own s tid (mine .owner) below)
+    by-depth valid (inr deepest) = operated Release s tid valid (deepest-is-full s tid (mine .owner) deepest)
+
+-- The record of a thread at a depth: free at depth 0, and held with the flag set above it.
+abbrev pub atDepth : ℕ → ℕ → SpinlockState
+atDepth zero tid = freeRecord
+atDepth (suc n) tid = record { owner = Thread tid; «nest_count» = suc n; «irq_saved» = true }
+
+taken-held : (tid : ℕ) → HeldBy (takenBy tid) tid
+taken-held tid = record { owner = refl; some = lit< tt; most = lit≤ tt }
+
+deeper-held : (s : SpinlockState) (tid : ℕ) → HeldBy s tid → s .«nest_count» < maxNestDepth → HeldBy (deeper s) tid
+deeper-held s tid mine below = record { owner = mine .owner; some = omega arith; most = omega arith }
+
+shallower-deeper : (s : SpinlockState) → 0 < s .«nest_count» → shallower (deeper s) ≡ s
+shallower-deeper s some =
+    let less : s .«nest_count» + 1 - 1 ≡ s .«nest_count» = omega arith in
+    rw (ne-eqb (s .«nest_count» + 1) 1 (λ e. omega arith), less)
+
+-- The operations that take a lock.
+pub data Takes : Operation → Type 0 where
+  plain : Takes Acquire
+  nested : Takes Nested
+
+undone : (op : Operation) → Takes op → (s : SpinlockState) (tid : ℕ) {sit : Situation} → View s tid sit → codeOf op sit ≡ OK
+    → release (after op sit s tid) tid ≡ answer OK s
+unfolding codeOf after
+undone Acquire plain s tid (free e) _ = release-held (takenBy tid) tid (taken-held tid) ∙ ap (answer OK) (sym e)
+undone Acquire plain s tid (own _ _) e = absurd (pos-ne-negsuc 0 15 (sym e))
+undone Acquire plain s tid (full _ _) e = absurd (pos-ne-negsuc 0 15 (sym e))
+undone Acquire plain s tid (foreign _ _ _) e = absurd (pos-ne-negsuc 0 15 (sym e))
+undone Nested nested s tid (free e) _ = release-held (takenBy tid) tid (taken-held tid) ∙ ap (answer OK) (sym e)
+undone Nested nested s tid (own mine below) _ =
+    release-held (deeper s) tid (deeper-held s tid mine below) ∙ ap (answer OK) (shallower-deeper s (mine .some))
+undone Nested nested s tid (full _ _) e = absurd (pos-ne-negsuc 0 15 (sym e))
+undone Nested nested s tid (foreign _ _ _) e = absurd (pos-ne-negsuc 0 15 (sym e))
+
+-- Upstream's lemma_acquire_release_roundtrip and lemma_nested_acquire_release: whatever record an accepted acquire of either kind was asked
+-- of, a release by the same thread gives that record back, flag included.
+pub release-undoes : (op : Operation) → Takes op → (s : SpinlockState) (tid : ℕ) → operate op s tid .code ≡ OK
+    → release (operate op s tid .value) tid ≡ answer OK s
+release-undoes op takes s tid =
+    bool-ind (λ b. validRecord s ≡ b → operate op s tid .code ≡ OK → release (operate op s tid .value) tid ≡ answer OK s) (validRecord s)
+    (λ _ valid accepted.
+    let e = operated op s tid valid refl in
+    ap (λ (a : Answer SpinlockState). release (a .value) tid) e ∙ undone op takes s tid (view s tid valid) (sym (same-code e) ∙ accepted))
+    (λ _ bad accepted. absurd (pos-ne-negsuc 0 21 (sym accepted ∙ same-code (invalid-refused op s tid bad)))) refl
+
+-- A plain acquire of the free record and a release are back at the free record.
+pub acquire-then-release : (tid : ℕ) → (acquire freeRecord tid ≡ answer OK (takenBy tid)) × (release (takenBy tid) tid ≡ answer OK freeRecord)
+unfolding operate validRecord situationOf codeOf after
+acquire-then-release tid = (refl, release-held (takenBy tid) tid (taken-held tid))
+
+-- ---- n acquires, n releases
+
+at-depth-held : (n tid : ℕ) → suc n ≤ maxNestDepth → HeldBy (atDepth (suc n) tid) tid
+at-depth-held n tid h = record { owner = refl; some = omega arith; most = h }
+
+-- Below 255 a nested acquire goes one deeper.
+pub nested-deeper : (n tid : ℕ) → n < maxNestDepth → acquireNested (atDepth n tid) tid ≡ answer OK (atDepth (suc n) tid)
+unfolding operate validRecord situationOf codeOf after
+nested-deeper zero tid h = refl
+nested-deeper (suc n) tid h =
+    let s = atDepth (suc n) tid in
+    operated Nested s tid (held-valid s tid refl (omega arith) (omega arith)) (below-is-own s tid refl h)
+    ∙ ap (λ (d : ℕ). answer OK (record { owner = Thread tid; «nest_count» = d; «irq_saved» = true })) (add-one (suc n))
+
+-- At 255 it goes no further.
+pub nested-no-further : (tid : ℕ) → acquireNested (atDepth maxNestDepth tid) tid ≡ answer EBUSY (atDepth maxNestDepth tid)
+unfolding operate validRecord situationOf codeOf after
+nested-no-further tid = rw (eq-eqb tid tid refl)
+
+-- A release goes one back.
+pub release-back : (n tid : ℕ) → n < maxNestDepth → release (atDepth (suc n) tid) tid ≡ answer OK (atDepth n tid)
+release-back n tid h = release-held (atDepth (suc n) tid) tid (at-depth-held n tid h) ∙ ap (answer OK) (by n)
+  where
+    by : (m : ℕ) → shallower (atDepth (suc m) tid) ≡ atDepth m tid
+    by zero = refl
+    by (suc m) = let less : suc (suc m) - 1 ≡ suc m = omega arith in rw (ne-eqb (suc (suc m)) 1 (λ e. omega arith), less)
+
+-- The record after n nested acquires, and after k releases.
+abbrev pub nestedTimes : ℕ → ℕ → SpinlockState → SpinlockState
+nestedTimes zero tid s = s
+nestedTimes (suc n) tid s = acquireNested (nestedTimes n tid s) tid .value
+
+abbrev pub releasedTimes : ℕ → ℕ → SpinlockState → SpinlockState
+releasedTimes zero tid s = s
+releasedTimes (suc k) tid s = release (releasedTimes k tid s) tid .value
+
+-- From the free record n nested acquires by one thread reach depth n, for every n up to 255.
+pub nested-reaches : (n tid : ℕ) → n ≤ maxNestDepth → nestedTimes n tid freeRecord ≡ atDepth n tid
+nested-reaches zero tid h = refl
+nested-reaches (suc n) tid h =
+    ap (λ (s : SpinlockState). acquireNested s tid .value) (nested-reaches n tid (omega arith))
+    ∙ ap (λ (a : Answer SpinlockState). a .value) (nested-deeper n tid h)
+
+-- After n acquires and k releases the thread is at depth n - k, for every k up to n.
+pub released-reaches : (n k tid : ℕ) → n ≤ maxNestDepth → k ≤ n → releasedTimes k tid (nestedTimes n tid freeRecord) ≡ atDepth (n - k) tid
+released-reaches n zero tid h l = let all : n ≡ n - 0 = omega arith in nested-reaches n tid h ∙ ap (λ (m : ℕ). atDepth m tid) all
+released-reaches n (suc k) tid h l =
+    let one : n - k ≡ suc (n - suc k) = omega arith in
+    ap (λ (s : SpinlockState). release s tid .value) (released-reaches n k tid h (omega arith) ∙ ap (λ (m : ℕ). atDepth m tid) one)
+    ∙ ap (λ (a : Answer SpinlockState). a .value) (release-back (n - suc k) tid (omega arith))
+
+-- Upstream's lemma_n_acquires_n_releases: it takes exactly n releases to free the lock, no fewer.
+pub n-releases-free : (n tid : ℕ) → n ≤ maxNestDepth → releasedTimes n tid (nestedTimes n tid freeRecord) ≡ freeRecord
+n-releases-free n tid h = let none : n - n ≡ 0 = omega arith in released-reaches n n tid h (omega arith) ∙ ap (λ (m : ℕ). atDepth m tid) none
+
+pub fewer-do-not : (n k tid : ℕ) → n ≤ maxNestDepth → k < n → isFree (releasedTimes k tid (nestedTimes n tid freeRecord)) ≡ answer OK false
+unfolding read validRecord
+fewer-do-not n k tid h l =
+    let some : n - k ≡ suc (n - suc k) = omega arith in
+    ap isFree (released-reaches n k tid h (omega arith) ∙ ap (λ (m : ℕ). atDepth m tid) some) ∙ rw (lt-ltb 0 (suc (n - suc k)) (omega arith), le-leb (suc (n - suc k)) maxNestDepth (omega arith))
+
+-- ---- a held lock and a plain acquire
+
+-- Upstream's lemma_double_acquire_rejected: a plain acquire of a held lock is refused to every thread, its owner too.
+pub plain-acquire-of-held : (s : SpinlockState) (tid : ℕ) → validRecord s ≡ true → held (s .owner) ≡ true → acquire s tid ≡ answer EBUSY s
+unfolding codeOf after
+plain-acquire-of-held s tid valid taken = operated Acquire s tid valid refl ∙ by (view s tid valid)
+  where
+    by : {sit : Situation} → View s tid sit → answer (codeOf Acquire sit) (after Acquire sit s tid) ≡ answer EBUSY s
+    by (free e) = absurd (false≢true (sym (ap (λ (r : SpinlockState). held (r .owner)) e) ∙ taken))
+    by (own _ _) = refl
+    by (full _ _) = refl
+    by (foreign _ _ _) = refl

@@ -1,0 +1,131 @@
+-- 01, "Lock record": owner (none or a thread), depth, irq flag.
+use Prim.Native.Nat.{ℕ, _+_, _-_}
+use mathlib.Core.Bool.{Bool, true, false, _&&_, not, cond}
+use lib.Dec.{eqb, ltb, leb}
+use Rattle.error.specs.Codes.{OK, EINVAL, numberOf}
+use Rattle.error.specs.Answer.{Answer, answer}
+use Rattle.spinlock.specs.declared.Owner.{Owner}
+use Rattle.spinlock.specs.declared.Owner.the-variants.{None, Thread}
+use Rattle.spinlock.specs.declared.SpinlockState.{SpinlockState}
+use Rattle.spinlock.specs.declared.Changed.{Changed}
+use Rattle.spinlock.specs.declared.Depth.{Depth}
+use Rattle.spinlock.specs.declared.OwnerRead.{OwnerRead}
+use Rattle.spinlock.specs.declared.Operation.{Operation}
+use Rattle.spinlock.specs.declared.Operation.the-variants.{Acquire, Nested, Release}
+use Rattle.spinlock.specs.declared.Situation.{Situation}
+use Rattle.spinlock.specs.declared.Situation.the-variants.{Free, Own, Full, Foreign}
+use Rattle.spinlock.specs.Table.{codeOf}
+
+-- What the results say, in 01's terms: a code and a record, a depth or an owner.
+abbrev pub changedSays : Changed → Answer SpinlockState
+changedSays a = answer (numberOf (a .code)) (a .state)
+
+abbrev pub depthSays : Depth → Answer ℕ
+depthSays a = answer (numberOf (a .code)) (a .depth)
+
+abbrev pub ownerSays : OwnerRead → Answer Owner
+ownerSays a = answer (numberOf (a .code)) (a .owner)
+
+-- The greatest depth.
+abbrev pub maxNestDepth : ℕ
+maxNestDepth = 255
+
+-- The new record is free.
+abbrev pub freeRecord : SpinlockState
+freeRecord = record { owner = None; «nest_count» = 0; «irq_saved» = false }
+
+-- Taking a free lock gives owner, depth 1, flag set.
+abbrev pub takenBy : ℕ → SpinlockState
+takenBy tid = record { owner = Thread tid; «nest_count» = 1; «irq_saved» = true }
+
+-- Gains one; the owner and the flag stay.
+abbrev pub deeper : SpinlockState → SpinlockState
+deeper s = record { owner = s .owner; «nest_count» = s .«nest_count» + 1; «irq_saved» = s .«irq_saved» }
+
+-- At depth 1 all three fields are freed; deeper loses one, and the owner and the flag stay.
+abbrev pub shallower : SpinlockState → SpinlockState
+shallower s =
+    cond (eqb (s .«nest_count») 1) freeRecord
+    (record { owner = s .owner; «nest_count» = s .«nest_count» - 1; «irq_saved» = s .«irq_saved» })
+
+-- Owner present exactly if depth > 0; depth at most 255; flag clear when free.
+abbrev pub validBy : Owner → ℕ → Bool → Bool
+validBy None depth flag = eqb depth 0 && not flag
+validBy (Thread t) depth flag = ltb 0 depth && leb depth maxNestDepth
+
+unfoldable pub validRecord : SpinlockState → Bool
+validRecord s = validBy (s .owner) (s .«nest_count») (s .«irq_saved»)
+
+-- Free, the owner's below 255, the owner's at 255, or another's.
+abbrev pub situationBy : Owner → ℕ → ℕ → Situation
+situationBy None depth tid = Free
+situationBy (Thread t) depth tid = cond (eqb t tid) (cond (ltb depth maxNestDepth) Own Full) Foreign
+
+unfoldable pub situationOf : SpinlockState → ℕ → Situation
+situationOf s tid = situationBy (s .owner) (s .«nest_count») tid
+
+-- The record after an operation in a situation. What is refused stays as it was.
+unfoldable pub after : Operation → Situation → SpinlockState → ℕ → SpinlockState
+after Acquire Free s tid = takenBy tid
+after Acquire Own s tid = s
+after Acquire Full s tid = s
+after Acquire Foreign s tid = s
+after Nested Free s tid = takenBy tid
+after Nested Own s tid = deeper s
+after Nested Full s tid = s
+after Nested Foreign s tid = s
+after Release Free s tid = s
+after Release Own s tid = shallower s
+after Release Full s tid = shallower s
+after Release Foreign s tid = s
+
+-- A call that changes a record: an invalid one is EINVAL, handed back as given.
+unfoldable pub operate : Operation → SpinlockState → ℕ → Answer SpinlockState
+operate op s tid = cond (validRecord s) (answer (codeOf op (situationOf s tid)) (after op (situationOf s tid) s tid)) (answer EINVAL s)
+
+abbrev pub acquire : SpinlockState → ℕ → Answer SpinlockState
+acquire = operate Acquire
+
+abbrev pub acquireNested : SpinlockState → ℕ → Answer SpinlockState
+acquireNested = operate Nested
+
+abbrev pub release : SpinlockState → ℕ → Answer SpinlockState
+release = operate Release
+
+-- A call that reads a record: an invalid one is EINVAL, with 0, none or no.
+unfoldable pub read : {A : Type 0} → SpinlockState → A → A → Answer A
+read s found nothing = cond (validRecord s) (answer OK found) (answer EINVAL nothing)
+
+-- The record has an owner.
+abbrev pub held : Owner → Bool
+held None = false
+held (Thread t) = true
+
+-- The thread is the owner.
+abbrev pub owns : Owner → ℕ → Bool
+owns None tid = false
+owns (Thread t) tid = eqb t tid
+
+-- acquire_check and is_free say yes exactly if free, is_held exactly if not.
+abbrev pub isFree : SpinlockState → Answer Bool
+isFree s = read s (not (held (s .owner))) false
+
+abbrev pub acquireCheck : SpinlockState → ℕ → Answer Bool
+acquireCheck s tid = isFree s
+
+abbrev pub isHeld : SpinlockState → Answer Bool
+isHeld s = read s (held (s .owner)) false
+
+-- nest_depth, owner_get and is_owner report the fields.
+abbrev pub nestDepth : SpinlockState → Answer ℕ
+nestDepth s = read s (s .«nest_count») 0
+
+abbrev pub ownerGet : SpinlockState → Answer Owner
+ownerGet s = read s (s .owner) None
+
+abbrev pub isOwner : SpinlockState → ℕ → Answer Bool
+isOwner s tid = read s (owns (s .owner) tid) false
+
+-- release_check: yes exactly if the given thread owns the record.
+abbrev pub releaseCheck : SpinlockState → ℕ → Answer Bool
+releaseCheck s tid = isOwner s tid

@@ -1,0 +1,384 @@
+// One lock record: who holds a spinlock, how deep, and whether interrupts were saved when it was taken.
+//
+// Upstream: src/spinlock.rs, `SpinlockState` with its methods, by value: a call takes the record and gives it back.
+//   init -> new; acquire_check, acquire, acquire_nested, release, is_held, is_free, nest_depth, owner_get, is_owner keep their names
+//   release_check is named upstream and stands in no file: here it says whether the given thread owns the record
+//   set_owner is named upstream and stands in no file: spinlock_validate::spin_lock_compute_owner stands for it
+// What upstream requires, a valid record, is tested here: an invalid one is EINVAL in every call and comes back as given. A caller can
+// rely on these (proofs/Laws.antt): no call makes a valid record invalid, a refusal changes nothing, and a release undoes an acquire.
+ghost use mathlib.Core.Path.{_≡_};
+ghost use mathlib.Core.Bool.{true, false};
+ghost use Prim.Native.Nat.{_<_};
+ghost use Rattle.error.specs.Codes.{numberOf};
+ghost use Rattle.error.specs.Answer.{yesNoSays};
+ghost use Rattle.spinlock.specs.Table.{rowOf, columnOf, codeOf};
+ghost use Rattle.spinlock.specs.Lock.{
+  changedSays,
+  depthSays,
+  ownerSays,
+  freeRecord,
+  takenBy,
+  maxNestDepth,
+  deeper as Lock·deeper,
+  shallower as Lock·shallower,
+  after as Lock·after,
+  operate as Lock·operate,
+  held,
+  owns,
+  read,
+  validRecord,
+  situationOf,
+  acquireCheck,
+  acquire,
+  acquireNested,
+  release,
+  releaseCheck,
+  isHeld,
+  isFree,
+  nestDepth,
+  ownerGet,
+  isOwner,
+};
+use error::Code;
+use error::YesNo;
+
+// How deep one thread may nest.
+pub const MAX_NEST_DEPTH: u32 = 255;
+
+// Who holds a lock.
+pub enum Owner {
+    None,
+    Thread(u32),
+}
+
+// The lock record.
+pub struct SpinlockState {
+    pub owner: Owner,
+    pub nest_count: u32,
+    pub irq_saved: bool,
+}
+
+// A record after a call, with the call's code.
+pub struct Changed {
+    pub code: Code,
+    pub state: SpinlockState,
+}
+
+// A nesting depth, or 0 with the code of the refusal.
+pub struct Depth {
+    pub code: Code,
+    pub depth: u32,
+}
+
+// An owner, or none with the code of the refusal.
+pub struct OwnerRead {
+    pub code: Code,
+    pub owner: Owner,
+}
+
+// The calls that change a record.
+pub enum Operation {
+    Acquire,
+    Nested,
+    Release,
+}
+
+// What a valid record is to a thread that asks: free, its own with room to nest, its own and full, or another's.
+pub enum Situation {
+    Free,
+    Own,
+    Full,
+    Foreign,
+}
+
+// The code of each operation in each situation: rows acquire, nested, release; columns free, own, full, foreign.
+const CODES: [[Code; 4]; 3] = [
+    [Code::Ok, Code::Ebusy, Code::Ebusy, Code::Ebusy],
+    [Code::Ok, Code::Ok, Code::Ebusy, Code::Ebusy],
+    [Code::Eperm, Code::Ok, Code::Ok, Code::Eperm],
+];
+
+fn row(operation: Operation) -> usize
+    ensures { λ r. ⌜ (r ≡ rowOf operation) × (r < 3) ⌝ }
+{
+    match operation {
+        Operation::Acquire => 0,
+        Operation::Nested => 1,
+        Operation::Release => 2,
+    }
+}
+
+fn column(situation: Situation) -> usize
+    ensures { λ r. ⌜ (r ≡ columnOf situation) × (r < 4) ⌝ }
+{
+    match situation {
+        Situation::Free => 0,
+        Situation::Own => 1,
+        Situation::Full => 2,
+        Situation::Foreign => 3,
+    }
+}
+
+// The code of an operation in a situation.
+pub fn code_of(operation: Operation, situation: Situation) -> Code
+    ensures { λ r. ⌜ numberOf r ≡ codeOf operation situation ⌝ }
+{
+    let i = row(operation);
+    let j = column(situation);
+    CODES[i][j]
+}
+
+// The record that a thread has just taken.
+fn taken_by(tid: u32) -> SpinlockState
+    ensures { λ r. ⌜ r ≡ takenBy tid ⌝ }
+{
+    SpinlockState {
+        owner: Owner::Thread(tid),
+        nest_count: 1,
+        irq_saved: true,
+    }
+}
+
+impl SpinlockState {
+    // A free record.
+    pub fn new() -> SpinlockState
+        ensures { λ r. ⌜ r ≡ freeRecord ⌝ }
+    {
+        SpinlockState {
+            owner: Owner::None,
+            nest_count: 0,
+            irq_saved: false,
+        }
+    }
+
+    // Whether the three fields fit together.
+    pub fn valid(self) -> bool
+        ensures { λ r. ⌜ r ≡ validRecord self ⌝ }
+    {
+        let owner = self.owner;
+        match owner {
+            Owner::None => {
+                if self.nest_count == 0 {
+                    !self.irq_saved
+                } else {
+                    false
+                }
+            }
+            Owner::Thread(_) => {
+                if 0 < self.nest_count {
+                    self.nest_count <= MAX_NEST_DEPTH
+                } else {
+                    false
+                }
+            }
+        }
+    }
+
+    // What the record is to a thread.
+    pub fn situation(self, tid: u32) -> Situation
+        ensures { λ r. ⌜ r ≡ situationOf self tid ⌝ }
+    {
+        let owner = self.owner;
+        match owner {
+            Owner::None => Situation::Free,
+            Owner::Thread(holder) => {
+                if holder != tid {
+                    return Situation::Foreign;
+                }
+                if self.nest_count < MAX_NEST_DEPTH {
+                    Situation::Own
+                } else {
+                    Situation::Full
+                }
+            }
+        }
+    }
+
+    // One level more.
+    fn deeper(self) -> SpinlockState
+        requires { ⌜ self .«nest_count» < maxNestDepth ⌝ }
+        ensures { λ r. ⌜ r ≡ Lock·deeper self ⌝ }
+    {
+        let mut next = self;
+        next.nest_count = next.nest_count + 1;
+        next
+    }
+
+    // One level less, and free after the last.
+    fn shallower(self) -> SpinlockState
+        requires { ⌜ 0 < self .«nest_count» ⌝ }
+        ensures { λ r. ⌜ r ≡ Lock·shallower self ⌝ }
+    {
+        if self.nest_count == 1 {
+            return SpinlockState::new();
+        }
+        let mut next = self;
+        next.nest_count = next.nest_count - 1;
+        next
+    }
+
+    // The record after an operation in a situation. What is refused stays as it was.
+    fn after(self, operation: Operation, situation: Situation, tid: u32) -> SpinlockState
+        requires { ⌜ validRecord self ≡ true ⌝ }
+        requires { ⌜ situation ≡ situationOf self tid ⌝ }
+        ensures { λ r. ⌜ r ≡ Lock·after operation situation self tid ⌝ }
+    {
+        match operation {
+            Operation::Acquire => match situation {
+                Situation::Free => taken_by(tid),
+                Situation::Own => self,
+                Situation::Full => self,
+                Situation::Foreign => self,
+            },
+            Operation::Nested => match situation {
+                Situation::Free => taken_by(tid),
+                Situation::Own => self.deeper(),
+                Situation::Full => self,
+                Situation::Foreign => self,
+            },
+            Operation::Release => match situation {
+                Situation::Free => self,
+                Situation::Own => self.shallower(),
+                Situation::Full => self.shallower(),
+                Situation::Foreign => self,
+            },
+        }
+    }
+
+    // An operation: its code comes from the table, and an invalid record comes back as given.
+    fn operate(self, operation: Operation, tid: u32) -> Changed
+        ensures { λ r. ⌜ changedSays r ≡ Lock·operate operation self tid ⌝ }
+    {
+        if !self.valid() {
+            return Changed {
+                code: Code::Einval,
+                state: self,
+            };
+        }
+        let situation = self.situation(tid);
+        Changed {
+            code: code_of(operation, situation),
+            state: self.after(operation, situation, tid),
+        }
+    }
+
+    // Takes a free lock. A held one is busy, for its owner too.
+    pub fn acquire(self, tid: u32) -> Changed
+        ensures { λ r. ⌜ changedSays r ≡ acquire self tid ⌝ }
+    {
+        self.operate(Operation::Acquire, tid)
+    }
+
+    // Takes a free lock, or goes one level deeper for its owner. At the greatest depth, or held by another thread, it is busy.
+    pub fn acquire_nested(self, tid: u32) -> Changed
+        ensures { λ r. ⌜ changedSays r ≡ acquireNested self tid ⌝ }
+    {
+        self.operate(Operation::Nested, tid)
+    }
+
+    // Gives back one level, for the owner alone.
+    pub fn release(self, tid: u32) -> Changed
+        ensures { λ r. ⌜ changedSays r ≡ release self tid ⌝ }
+    {
+        self.operate(Operation::Release, tid)
+    }
+
+    fn has_owner(self) -> bool
+        ensures { λ r. ⌜ r ≡ held (self .owner) ⌝ }
+    {
+        let owner = self.owner;
+        match owner {
+            Owner::None => false,
+            Owner::Thread(_) => true,
+        }
+    }
+
+    fn owned_by(self, tid: u32) -> bool
+        ensures { λ r. ⌜ r ≡ owns (self .owner) tid ⌝ }
+    {
+        let owner = self.owner;
+        match owner {
+            Owner::None => false,
+            Owner::Thread(holder) => holder == tid,
+        }
+    }
+
+    // The yes or no of a valid record; no, refused, of an invalid one.
+    fn answered(self, yes: bool) -> YesNo
+        ensures { λ r. ⌜ yesNoSays r ≡ read self yes false ⌝ }
+    {
+        if !self.valid() {
+            return YesNo {
+                code: Code::Einval,
+                yes: false,
+            };
+        }
+        YesNo {
+            code: Code::Ok,
+            yes,
+        }
+    }
+
+    // Whether a plain acquire would be taken: only a free lock's.
+    pub fn acquire_check(self, tid: u32) -> YesNo
+        ensures { λ r. ⌜ yesNoSays r ≡ acquireCheck self tid ⌝ }
+    {
+        self.is_free()
+    }
+
+    // Whether the thread may release.
+    pub fn release_check(self, tid: u32) -> YesNo
+        ensures { λ r. ⌜ yesNoSays r ≡ releaseCheck self tid ⌝ }
+    {
+        self.is_owner(tid)
+    }
+
+    pub fn is_held(self) -> YesNo
+        ensures { λ r. ⌜ yesNoSays r ≡ isHeld self ⌝ }
+    {
+        self.answered(self.has_owner())
+    }
+
+    pub fn is_free(self) -> YesNo
+        ensures { λ r. ⌜ yesNoSays r ≡ isFree self ⌝ }
+    {
+        self.answered(!self.has_owner())
+    }
+
+    pub fn is_owner(self, tid: u32) -> YesNo
+        ensures { λ r. ⌜ yesNoSays r ≡ isOwner self tid ⌝ }
+    {
+        self.answered(self.owned_by(tid))
+    }
+
+    pub fn nest_depth(self) -> Depth
+        ensures { λ r. ⌜ depthSays r ≡ nestDepth self ⌝ }
+    {
+        if !self.valid() {
+            return Depth {
+                code: Code::Einval,
+                depth: 0,
+            };
+        }
+        Depth {
+            code: Code::Ok,
+            depth: self.nest_count,
+        }
+    }
+
+    pub fn owner_get(self) -> OwnerRead
+        ensures { λ r. ⌜ ownerSays r ≡ ownerGet self ⌝ }
+    {
+        if !self.valid() {
+            return OwnerRead {
+                code: Code::Einval,
+                owner: Owner::None,
+            };
+        }
+        let owner = self.owner;
+        OwnerRead {
+            code: Code::Ok,
+            owner,
+        }
+    }
+}

@@ -1,0 +1,17 @@
+-- `taggable` is the test of the same name, one conjunct after the other. Assumes nothing.
+use borrow.Author.Tests.{lt-ltb, le-ltb, eq-eqb, ne-eqb}
+use borrow.Author.Tests.{lt-ltb, le-ltb, eq-eqb, ne-eqb}
+use Rattle.spinlock_validate.proofs.taggable.Statement.{statement}
+use Rattle.spinlock_validate.proofs.taggable.Tie as tie
+
+returns : tie.Need-returns
+returns c = simp (le-ltb _ _ (c .if1 .taken))
+
+returns-2 : tie.Need-returns-2
+returns-2 c = simp (lt-ltb _ _ (c .before .if1 .left), eq-eqb _ _ (c .if2 .taken))
+
+returns-3 : tie.Need-returns-3
+returns-3 c = simp (lt-ltb _ _ (c .before .if1 .left), ne-eqb _ _ (c .if2 .left))
+
+pub taggable-spec : {M : Type 1} → statement M
+taggable-spec = tie.close (tie.spec returns returns-2 returns-3)

@@ -1,0 +1,90 @@
+-- Laws of tags, over the tag's width k: the word gives back the CPU and the thread that made it, distinct pairs make distinct words, a word
+-- is never 0 and at least 2 ^ k, and whatever is at least 2 ^ k was made by its own CPU and thread. Assumes nothing.
+use mathlib.Core.Path.{_≡_, sym, ap, _∙_}
+use mathlib.Core.Bool.{true, not}
+use Prim.Native.Nat.{ℕ, _+_, _-_, _*_, _/_, _%_, _^_, _≤_, _<_}
+use native.Mathlib.Nat.{div-add-mod', mod-eq-of-lt, mod-lt, mod-le, mul-mod-left, pos-of-ne-zero, lt-of-not-le, le-of-suc-le-suc}
+use native.Mathlib.Omega.{arith}
+use lib.Bits.{bitAnd, bitOr, or-shifted, and-mask, and-high}
+use lib.Dec.{eqb, ltb}
+use lib.Pow.{pow-pos, low, shr-mod}
+use borrow.Author.Tests.{ltb-true, eqb-true, eqb-false, not-true, lt-ltb, eq-eqb, ne-eqb}
+use Rattle.words.specs.Bit.{bitNot}
+use Rattle.words.specs.Tag.{taggable, wordOf, cpuOf, threadOf}
+use Rattle.words.proofs.Choice.{and-left, and-right}
+
+-- What `taggable` tests.
+pub record Taggable (k cpu thread : ℕ) : Type 0 where
+  pub below : cpu < 2 ^ k
+  pub some : 0 < thread
+  pub aligned : thread % 2 ^ k ≡ 0
+
+pub taggable-says : (k cpu thread : ℕ) → taggable k cpu thread ≡ true → Taggable k cpu thread
+taggable-says k cpu thread e =
+    let rest = and-right (ltb cpu (2 ^ k)) _ e in
+    record {
+      below = ltb-true cpu (2 ^ k) (and-left (ltb cpu (2 ^ k)) _ e);
+      some = pos-of-ne-zero (eqb-false thread 0 (not-true (eqb thread 0) (and-left (not (eqb thread 0)) _ rest)));
+      aligned = eqb-true (thread % 2 ^ k) 0 (and-right (not (eqb thread 0)) _ rest);
+    }
+
+pub says-taggable : (k cpu thread : ℕ) → Taggable k cpu thread → taggable k cpu thread ≡ true
+says-taggable k cpu thread t =
+    rw (lt-ltb cpu (2 ^ k) (t .below), ne-eqb thread 0 (λ e. omega (arith, t .some)), eq-eqb (thread % 2 ^ k) 0 (t .aligned))
+
+module _ (k cpu thread : ℕ) (t : Taggable k cpu thread) where
+  whole : thread / 2 ^ k * 2 ^ k ≡ thread
+  whole = omega (arith, t .aligned, div-add-mod' thread (2 ^ k))
+
+  pub cpu-back : cpuOf k (wordOf cpu thread) ≡ cpu
+  cpu-back = ap (λ (n : ℕ). (n + cpu) % 2 ^ k) (sym whole) ∙ low (thread / 2 ^ k) k (t .below)
+
+  pub thread-back : threadOf k (wordOf cpu thread) ≡ thread
+  thread-back = ap (λ (n : ℕ). thread + cpu - n) cpu-back ∙ omega arith
+
+  pub word-some : wordOf cpu thread ≡ 0 → ⊥
+  word-some e = omega (arith, t .some)
+
+  pub word-least : 2 ^ k ≤ wordOf cpu thread
+  word-least =
+      let least : 2 ^ k ≤ thread = le-of-suc-le-suc (lt-of-not-le (λ (h : thread < 2 ^ k). omega (arith, mod-eq-of-lt h, t .aligned, t .some))) in
+      omega arith
+
+  -- The sum is the `|` of the two: they have no bit in common.
+  pub word-or : bitOr thread cpu ≡ wordOf cpu thread
+  word-or = ap (λ (n : ℕ). bitOr n cpu) (sym whole) ∙ or-shifted (thread / 2 ^ k) k cpu (t .below) ∙ ap (λ (n : ℕ). n + cpu) whole
+
+-- Distinct pairs make distinct words.
+pub word-injective : (k c c′ t t′ : ℕ) → Taggable k c t → Taggable k c′ t′ → wordOf c t ≡ wordOf c′ t′ → (c ≡ c′) × (t ≡ t′)
+word-injective k c c′ t t′ g g′ e = (
+  sym (cpu-back k c t g) ∙ ap (cpuOf k) e ∙ cpu-back k c′ t′ g′,
+  sym (thread-back k c t g) ∙ ap (threadOf k) e ∙ thread-back k c′ t′ g′,
+)
+
+module _ (k word : ℕ) where
+  parts : word / 2 ^ k * 2 ^ k ≡ threadOf k word
+  parts = omega (arith, div-add-mod' word (2 ^ k))
+
+  -- A word is what its own two parts make.
+  pub word-again : wordOf (cpuOf k word) (threadOf k word) ≡ word
+  word-again = omega (arith, mod-le word (2 ^ k))
+
+  -- From 2 ^ k on, those parts are a CPU and a thread that can make a word.
+  pub parts-taggable : 2 ^ k ≤ word → Taggable k (cpuOf k word) (threadOf k word)
+  parts-taggable h =
+      let small : word % 2 ^ k < 2 ^ k = mod-lt word (pow-pos k) in
+      record {
+        below = small;
+        some = omega arith;
+        aligned = ap (λ (n : ℕ). n % 2 ^ k) (sym parts) ∙ mul-mod-left (word / 2 ^ k) (2 ^ k);
+      }
+
+  -- Upstream's `word & (2 ^ k - 1)`.
+  pub cpu-mask : bitAnd word (2 ^ k - 1) ≡ cpuOf k word
+  cpu-mask = and-mask word k
+
+-- Upstream's `word & !(2 ^ k - 1)`, at a width of j + k bits.
+pub thread-mask : (j k word : ℕ) → word < 2 ^ (j + k) → bitAnd word (bitNot (j + k) (2 ^ k - 1)) ≡ threadOf k word
+thread-mask j k word h =
+    let mask : bitNot (j + k) (2 ^ k - 1) ≡ 2 ^ (j + k) - 2 ^ k = omega (arith, pow-pos k) in
+    ap (bitAnd word) mask ∙ and-high word j k ∙ ap (λ (n : ℕ). n * 2 ^ k) (shr-mod j k h) ∙ parts k word

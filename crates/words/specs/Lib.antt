@@ -1,0 +1,4 @@
+pub mod Bit
+pub mod Tag
+pub mod HighFirst
+pub mod Signed
