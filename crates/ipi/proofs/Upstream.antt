@@ -74,6 +74,15 @@ module _ (current : ℕ) (target : ℤ) (mask : ℕ) (cpus : List CpuRecord) (nu
         less = and-right (bit i mask) _ d;
       }
 
+  pub IP2 : (i : ℕ) → bit i m ≡ true → i < num
+  IP2 i set = set-is-eligible i set .present
+
+  pub IP3 : (i : ℕ) → bit i m ≡ true → bit i mask ≡ true
+  IP3 i set = set-is-eligible i set .allowed
+
+  pub IP4 : (i : ℕ) → bit i m ≡ true → ltZ target (getD cpus i noCpu .priority) ≡ true
+  IP4 i set = set-is-eligible i set .less
+
   -- IP5: no stray high bits.
   pub IP5 : MaskBounded m max
   IP5 = below-is-bounded m max (ipi-below current target mask cpus num max m e)
