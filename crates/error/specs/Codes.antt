@@ -1,5 +1,7 @@
 -- 01, "Codes": the numbers that a call answers with.
-use lib.IntN.{ℤ, pos, negℤ}
+use mathlib.Core.Bool.{Bool}
+use lib.Dec.{eqb}
+use lib.IntN.{ℤ, pos, negℤ, natAbs}
 use Rattle.error.specs.declared.Code.{Code}
 use Rattle.error.specs.declared.Code.the-variants.{Ok, Eperm, Enomem, Ebusy, Einval, Ealready, Eoverflow}
 
@@ -40,3 +42,7 @@ numberOf Ebusy = EBUSY
 numberOf Einval = EINVAL
 numberOf Ealready = EALREADY
 numberOf Eoverflow = EOVERFLOW
+
+-- The number is OK's.
+abbrev pub isOK : ℤ → Bool
+isOK code = eqb (natAbs code) 0

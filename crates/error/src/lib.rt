@@ -3,7 +3,7 @@
 // Upstream: src/error.rs, every constant with its number. New: `Code`, the seven codes of document 01's table as an enum, and
 // `number`, the one place where a case becomes a number. A caller can rely on the numbers: they are Zephyr's.
 ghost use mathlib.Core.Path.{_≡_};
-ghost use Rattle.error.specs.Codes.{numberOf};
+ghost use Rattle.error.specs.Codes.{numberOf, isOK};
 
 pub const OK: i32 = 0;
 
@@ -62,6 +62,21 @@ pub fn number(code: Code) -> i32
         Code::Einval => EINVAL,
         Code::Ealready => EALREADY,
         Code::Eoverflow => EOVERFLOW,
+    }
+}
+
+// Whether a call was done.
+pub fn is_ok(code: Code) -> bool
+    ensures { λ r. ⌜ r ≡ isOK (numberOf code) ⌝ }
+{
+    match code {
+        Code::Ok => true,
+        Code::Eperm => false,
+        Code::Enomem => false,
+        Code::Ebusy => false,
+        Code::Einval => false,
+        Code::Ealready => false,
+        Code::Eoverflow => false,
     }
 }
 

@@ -3,9 +3,10 @@
 -- (proofs/Marked.antt).
 use mathlib.Core.Path.{_≡_}
 use mathlib.Core.Bool.{Bool, true, false}
-use mathlib.Core.List.{List, [], _∷_}
+use mathlib.Core.List.{List, [], _∷_, _++_}
 use Prim.Native.Nat.{ℕ}
 use lib.IntN.{pos}
+use lib.ListN.{replicate}
 use Rattle.error.specs.Codes.{OK, EBUSY, EINVAL}
 use Rattle.error.specs.Answer.{answer}
 use Rattle.spinlock_validate.specs.Owner.{tagBits, nobody, heldBy, spinLockComputeOwner, spinLockDecodeOwner, spinLockValid}
@@ -15,6 +16,10 @@ use Rattle.spinlock.specs.declared.SpinlockState.{SpinlockState}
 use Rattle.cpu_mask.specs.Mask.{cpuMaskMod, cpuPinCompute}
 use Rattle.ipi.specs.Ipi.{computeIpiMask}
 use Rattle.ipi.specs.declared.CpuRecord.{CpuRecord}
+use Rattle.machine.specs.State.{setup, cpuAt, lockAt}
+use Rattle.machine.specs.declared.Machine.{Machine}
+use Rattle.runner.specs.Run.{stateAt}
+use Rattle.program.specs.Program.{respondRoom}
 
 -- A row: example n, what a rule gives and what it should give.
 pub data Row : Type 1 where
@@ -41,7 +46,27 @@ cpu active priority = record { active = active; priority = pos priority }
 unfoldable pub cpus : List CpuRecord
 cpus = cpu true 9 ∷ cpu true 9 ∷ cpu true 5 ∷ cpu false 9 ∷ []
 
--- The examples. M11 is the worked log of the machine.
+-- 01, "One log entire": setup 20, and seven records, each of four bytes and eight zeros.
+unfoldable pub opened : ℕ → ℕ → ℕ → List ℕ
+opened a b c = a ∷ b ∷ c ∷ 0 ∷ replicate 8 0
+
+unfoldable pub workedLog : List ℕ
+workedLog =
+    opened 0x00 0 0 ++ (opened 0x20 3 0 ++ (opened 0x40 0 7 ++ (opened 0x50 0 7 ++ (opened 0x30 3 0 ++ (opened 0xb0 0 7 ++ opened 0x60 0 7)))))
+
+-- The answers of 01: a code's four bytes and a value's.
+unfoldable pub zeros : ℕ → List ℕ
+zeros value = 0 ∷ 0 ∷ 0 ∷ 0 ∷ 0 ∷ 0 ∷ 0 ∷ value ∷ []
+
+unfoldable pub workedAnswers : List ℕ
+workedAnswers =
+    zeros 0 ++ (zeros 0 ++ (zeros 1 ++ (zeros 2 ++ ((0xff ∷ 0xff ∷ 0xff ∷ 0xf0 ∷ 0 ∷ 0 ∷ 0 ∷ 0 ∷ []) ++ (zeros 16 ++ zeros 1)))))
+
+-- The machine after the worked log.
+unfoldable pub workedEnd : Machine
+workedEnd = stateAt (setup 0x20 .value) workedLog 7
+
+-- The examples.
 unfoldable pub table : List Row
 table =
     M 1 (spinLockComputeOwner tagBits 3 8) (answer OK 11)
@@ -61,4 +86,7 @@ table =
     ∷ M 8 (acquireNested (at 255) 9) (answer EBUSY (at 255))
     ∷ M 9 (computeIpiMask 0 (pos 5) 15 cpus 4 4) (answer OK 2)
     ∷ M 10 (computeIpiMask 0 (pos 2147483647) 15 cpus 4 4) (answer OK 0)
+    ∷ M 11 (respondRoom (0x20 ∷ workedLog) (replicate 56 0)) workedAnswers
+    ∷ M 11 (lockAt workedEnd 7) (record { state = record { owner = Thread 3; «nest_count» = 1; «irq_saved» = true }; word = 16 })
+    ∷ M 11 (cpuAt workedEnd 0 .hold) 1
     ∷ []

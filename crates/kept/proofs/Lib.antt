@@ -1,0 +1,13 @@
+pub mod Apart
+pub mod Lengths
+pub mod Stored
+pub mod Accepted
+pub mod Running
+pub mod Threads
+pub mod Seats
+pub mod Sums
+pub mod Depths
+pub mod Seated
+pub mod Locks
+pub mod Locked
+pub mod Laws

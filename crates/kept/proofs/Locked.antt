@@ -1,0 +1,216 @@
+-- An acquire, a nested acquire and a release that the lock's rule accepts leave the machine well-formed. By the lock's situation to the
+-- CPU's current thread: a free lock is taken, an own one goes a level up or down, and every other is refused. A lock of that thread is a lock
+-- of that CPU, for the thread runs nowhere else. Assumes nothing.
+use mathlib.Core.Path.{_≡_, refl, sym, ap, _∙_}
+use mathlib.Core.Bool.{true, cond}
+use Prim.Native.Nat.{ℕ, _+_, _-_, _≤_, _<_}
+use native.Mathlib.Omega.{arith}
+use lib.Dec.{eqb}
+use borrow.Author.Tests.{lt-ltb, eqb-true, eqb-false}
+use Rattle.error.specs.Answer.{answer}
+use Rattle.error.proofs.Answers.{same-value}
+use Rattle.words.specs.Tag.{wordOf, cpuOf}
+use Rattle.words.proofs.Choice.{bool-ind}
+use Rattle.words.proofs.Tags.{Taggable, cpu-back}
+use Rattle.spinlock_validate.specs.Owner.{tagBits}
+use Rattle.spinlock_validate.proofs.Laws.{makes}
+use Rattle.spinlock.specs.Table.{codeOf}
+use Rattle.spinlock.specs.Lock.{maxNestDepth, freeRecord, takenBy, deeper, shallower, validRecord, after, operate}
+use Rattle.spinlock.specs.declared.Owner.{Owner}
+use Rattle.spinlock.specs.declared.SpinlockState.{SpinlockState}
+use Rattle.spinlock.specs.declared.Operation.{Operation}
+use Rattle.spinlock.specs.declared.Situation.{Situation}
+use Rattle.spinlock.proofs.Situations.{HeldBy, View, free, own, full, foreign, view}
+use Rattle.spinlock.proofs.Laws.{operated, held-valid}
+use Rattle.machine.specs.State.{cpuSlots, lockCount, threadWord, cpuAt, lockAt}
+use Rattle.machine.specs.declared.Current.{Current}
+use Rattle.machine.specs.declared.Lock.{Lock}
+use Rattle.machine.specs.declared.Machine.{Machine}
+use Rattle.rules.specs.Rules.{elsewhere, ruled, wordAfter, settled, lockBy, lockOp, oneMore, moved}
+use Rattle.wellformed.specs.WellFormed.{depthFor, sumBelow}
+use Rattle.wellformed.proofs.Facts.{Runs, WellFormed}
+use Rattle.kept.proofs.Apart.{none-or-owner, same-cpu, same-owner}
+use Rattle.kept.proofs.Accepted.{Accepting}
+use Rattle.kept.proofs.Sums.{sum-term}
+use Rattle.kept.proofs.Depths.{depth-named, depth-zero, depth-other, held-word, hold-most}
+use Rattle.kept.proofs.Locks.{Relocks}
+
+-- A CPU below 4 and a thread's word make an owner word.
+word-taggable : (c t : ℕ) → c < cpuSlots → Taggable tagBits c (threadWord t)
+word-taggable c t h = record { below = h; some = omega arith; aligned = omega arith }
+
+-- The lock records of a well-formed machine are valid.
+lock-valid : (m : Machine) → WellFormed m → (l : ℕ) → l < lockCount → validRecord (lockAt m l .state) ≡ true
+unfolding validRecord
+lock-valid m w l h = go (lockAt m l .state .owner) refl
+  where
+    go : (o : Owner) → lockAt m l .state .owner ≡ o → validRecord (lockAt m l .state) ≡ true
+    go Owner.None e = let f = w .free l h e in rw (e, f .depth, f .flag)
+    go (Owner.Thread t) e = let f = w .held l h t e in held-valid (lockAt m l .state) t e (f .some) (f .most)
+
+module _ (m : Machine) (w : WellFormed m) (c l t : ℕ) (hc : c < m .n) (hl : l < lockCount) (runs : Runs m c t) where
+  hc′ : c < cpuSlots
+  hc′ = omega (arith, w .few)
+
+  more : oneMore (cpuAt m c .hold) ≡ cpuAt m c .hold + 1
+  more = rw (lt-ltb (cpuAt m c .hold) 0xffff_ffff (hold-most m w c hc′))
+
+  -- A free lock is taken.
+  taken : (v : Lock) → lockAt m l .state .owner ≡ Owner.None → v .state ≡ takenBy t → v .word ≡ wordOf c (threadWord t)
+      → Relocks m c l (oneMore (cpuAt m c .hold)) v
+  taken v none state word =
+      let was = w .free l hl none in
+      let owner : v .state .owner ≡ Owner.Thread t = ap (λ (x : SpinlockState). x .owner) state in
+      let depth : v .state .«nest_count» ≡ 1 = ap (λ (x : SpinlockState). x .«nest_count») state in
+      let cpu : cpuOf tagBits (v .word) ≡ c = ap (cpuOf tagBits) word ∙ cpu-back tagBits c (threadWord t) (word-taggable c t hc′) in
+      let some : v .word ≡ 0 → ⊥ = λ e. omega arith in
+      record {
+        free = λ e. absurd (none-or-owner (sym e ∙ owner));
+        held = λ u e.
+            let same : t ≡ u = same-owner (sym owner ∙ e) in
+            record {
+              some = omega arith;
+              most = omega arith;
+              flag = ap (λ (x : SpinlockState). x .«irq_saved») state;
+              word = word ∙ rw (cpu, same);
+              below = rw cpu hc;
+              current = rw (cpu, sym same) runs;
+            };
+        moves = rw (more, depth-zero (lockAt m l) c (was .word), depth-named v c some cpu, depth) (omega arith);
+        others = λ d other. depth-other v d (λ e. other (sym e ∙ cpu)) ∙ sym (depth-zero (lockAt m l) d (was .word));
+      }
+
+  -- An own lock: its word names the CPU.
+  module _ (owned : lockAt m l .state .owner ≡ Owner.Thread t) where
+    named : cpuOf tagBits (lockAt m l .word) ≡ c
+    named =
+        let was = w .held l hl t owned in
+        let below = was .below in
+        let there = w .current _ (omega (arith, w .few)) (record { 0 = t }) (was .current) .place in
+        let here = w .current c hc′ (record { 0 = t }) runs .place in
+        same-cpu (sym here ∙ there)
+
+    depth-is : depthFor (lockAt m l) c ≡ lockAt m l .state .«nest_count»
+    depth-is = depth-named (lockAt m l) c (held-word m (lockAt m l) t (w .held l hl t owned)) named
+
+    hold-least : lockAt m l .state .«nest_count» ≤ cpuAt m c .hold
+    hold-least =
+        let term : depthFor (lockAt m l) c ≤ sumBelow (λ i. depthFor (lockAt m i) c) lockCount = sum-term (λ i. depthFor (lockAt m i) c) lockCount l hl in
+        omega (arith, depth-is, w .hold c hc′)
+
+    -- It goes to another level, with its owner, flag and word.
+    leveled : (h : ℕ) (v : Lock) → v .state .owner ≡ Owner.Thread t → v .state .«irq_saved» ≡ lockAt m l .state .«irq_saved»
+        → v .word ≡ lockAt m l .word → 1 ≤ v .state .«nest_count» → v .state .«nest_count» ≤ maxNestDepth
+        → h + lockAt m l .state .«nest_count» ≡ cpuAt m c .hold + v .state .«nest_count» → Relocks m c l h v
+    leveled h v owner flag word some most moves =
+        let was = w .held l hl t owned in
+        let cpu : cpuOf tagBits (v .word) ≡ c = ap (cpuOf tagBits) word ∙ named in
+        let nonzero : v .word ≡ 0 → ⊥ = λ e. held-word m (lockAt m l) t was (sym word ∙ e) in
+        record {
+          free = λ e. absurd (none-or-owner (sym e ∙ owner));
+          held = λ u e.
+              let same : t ≡ u = same-owner (sym owner ∙ e) in
+              record {
+                some = some;
+                most = most;
+                flag = flag ∙ was .flag;
+                word = rw (sym same, word) (was .word);
+                below = rw cpu hc;
+                current = rw (cpu, sym same) runs;
+              };
+          moves = rw (depth-is, depth-named v c nonzero cpu) moves;
+          others = λ d other.
+              depth-other v d (λ e. other (sym e ∙ cpu)) ∙ sym (depth-other (lockAt m l) d (λ e. other (sym e ∙ named)));
+        }
+
+    -- It is freed, from level 1.
+    freed : (v : Lock) → v .state ≡ freeRecord → v .word ≡ 0 → lockAt m l .state .«nest_count» ≡ 1 → Relocks m c l (cpuAt m c .hold - 1) v
+    freed v state word one =
+        let least = hold-least in
+        record {
+          free = λ _.
+              record {
+                depth = ap (λ (x : SpinlockState). x .«nest_count») state;
+                flag = ap (λ (x : SpinlockState). x .«irq_saved») state;
+                word = word;
+              };
+          held = λ u e. absurd (none-or-owner (ap (λ (x : SpinlockState). x .owner) (sym state) ∙ e));
+          moves = rw (depth-is, depth-zero v c word) (omega arith);
+          others = λ d other. depth-zero v d word ∙ sym (depth-other (lockAt m l) d (λ e. other (sym e ∙ named)));
+        }
+
+  word-held : (v : SpinlockState) (u x : ℕ) → v .owner ≡ Owner.Thread u → lockAt m l .state .owner ≡ Owner.Thread x
+      → wordAfter c t (lockAt m l) v ≡ lockAt m l .word
+  word-held v u x now before = rw (now, before)
+
+  word-made : (v : SpinlockState) → v .owner ≡ Owner.Thread t → lockAt m l .state .owner ≡ Owner.None
+      → wordAfter c t (lockAt m l) v ≡ wordOf c (threadWord t)
+  word-made v now before = rw (now, before) (same-value (makes tagBits c (threadWord t) (word-taggable c t hc′)))
+
+  taken-here : lockAt m l .state ≡ freeRecord
+      → Relocks m c l (oneMore (cpuAt m c .hold)) (record { state = takenBy t; word = wordAfter c t (lockAt m l) (takenBy t) })
+  taken-here e =
+      let none : lockAt m l .state .owner ≡ Owner.None = ap (λ (x : SpinlockState). x .owner) e in
+      taken _ none refl (word-made (takenBy t) refl none)
+
+  released : HeldBy (lockAt m l .state) t
+      → Relocks m c l (cpuAt m c .hold - 1)
+      (record { state = shallower (lockAt m l .state); word = wordAfter c t (lockAt m l) (shallower (lockAt m l .state)) })
+  released mine =
+      let state = lockAt m l .state in
+      let depth = state .«nest_count» in
+      let lower : SpinlockState = record { owner = state .owner; «nest_count» = depth - 1; «irq_saved» = state .«irq_saved» } in
+      bool-ind
+      (λ b. Relocks m c l (cpuAt m c .hold - 1) (record { state = cond b freeRecord lower; word = wordAfter c t (lockAt m l) (cond b freeRecord lower) }))
+      (eqb depth 1) (λ one. freed (mine .owner) _ refl refl (eqb-true depth 1 one)) (λ more.
+      let some = mine .some in
+      let most = mine .most in
+      let two : depth ≡ 1 → ⊥ = eqb-false depth 1 more in
+      let least = hold-least (mine .owner) in
+      leveled (mine .owner) _ _ (mine .owner) refl (word-held lower t t (mine .owner) (mine .owner)) (omega arith) (omega arith) (omega arith))
+
+  by-view : (op : Operation) {sit : Situation} → View (lockAt m l .state) t sit
+      → Accepting (Relocks m c l (moved op (cpuAt m c .hold)))
+      (settled c t (lockAt m l) (answer (codeOf op sit) (after op sit (lockAt m l .state) t)))
+  unfolding codeOf after
+  by-view Operation.Acquire (free e) = taken-here e
+  by-view Operation.Acquire (own _ _) = tt
+  by-view Operation.Acquire (full _ _) = tt
+  by-view Operation.Acquire (foreign _ _ _) = tt
+  by-view Operation.Nested (free e) = taken-here e
+  by-view Operation.Nested (own mine below) =
+      let some = mine .some in
+      leveled (mine .owner) _ _ (mine .owner) refl (word-held (deeper (lockAt m l .state)) t t (mine .owner) (mine .owner)) (omega arith) (omega arith)
+      (rw more (omega arith))
+  by-view Operation.Nested (full _ _) = tt
+  by-view Operation.Nested (foreign _ _ _) = tt
+  by-view Operation.Release (free e) = tt
+  by-view Operation.Release (own mine _) = released mine
+  by-view Operation.Release (full mine _) = released mine
+  by-view Operation.Release (foreign _ _ _) = tt
+
+  foreign-refused : (op : Operation)
+      → Accepting (Relocks m c l (moved op (cpuAt m c .hold))) (settled c t (lockAt m l) (answer (codeOf op Situation.Foreign) (lockAt m l .state)))
+  unfolding codeOf
+  foreign-refused Operation.Acquire = tt
+  foreign-refused Operation.Nested = tt
+  foreign-refused Operation.Release = tt
+
+  by-rule : (op : Operation) → Accepting (Relocks m c l (moved op (cpuAt m c .hold))) (settled c t (lockAt m l) (ruled op c t (lockAt m l)))
+  by-rule op =
+      bool-ind
+      (λ b. Accepting (Relocks m c l (moved op (cpuAt m c .hold)))
+      (settled c t (lockAt m l) (cond b (answer (codeOf op Situation.Foreign) (lockAt m l .state)) (operate op (lockAt m l .state) t))))
+      (elsewhere c t (lockAt m l)) (λ _. foreign-refused op) (λ _.
+      let valid = lock-valid m w l hl in
+      rw (operated op (lockAt m l .state) t valid refl) (by-view op (view (lockAt m l .state) t valid)))
+
+-- What the lock's rule hands back makes a good change, with the hold that moves.
+pub lock-accepted : (m : Machine) → WellFormed m → (c l : ℕ) → c < m .n → l < lockCount → (op : Operation)
+    → Accepting (Relocks m c l (moved op (cpuAt m c .hold))) (lockOp op c (cpuAt m c .run) (lockAt m l))
+unfolding lockOp
+lock-accepted m w c l hc hl op = go (cpuAt m c .run .current) refl
+  where
+    go : (o : Current) → cpuAt m c .run .current ≡ o → Accepting (Relocks m c l (moved op (cpuAt m c .hold))) (lockBy op c o (lockAt m l))
+    go Current.None e = tt
+    go (Current.Thread t) e = by-rule m w c l (t .0) hc hl e op

@@ -1,0 +1,65 @@
+-- 01, "Log records", "Runner": the records of a log one after the other, each answer in its place.
+use Prim.Native.Nat.{ℕ, zero, suc, _*_, _/_, _%_}
+use mathlib.Core.Bool.{Bool, not, cond}
+use mathlib.Core.List.{List, _++_}
+use lib.Dec.{eqb, ltb}
+use lib.IntN.{ℤ}
+use lib.ListN.{length, take, drop}
+use Rattle.error.specs.Codes.{OK, ENOMEM, EINVAL, EOVERFLOW, numberOf, isOK}
+use Rattle.error.specs.Answer.{Answer, answer}
+use Rattle.machine.specs.declared.Machine.{Machine}
+use Rattle.record.specs.Answer.{answerBytes, written}
+use Rattle.wellformed.specs.WellFormed.{wellFormed}
+use Rattle.runner.specs.Step.{answered, next}
+use Rattle.runner.specs.declared.Ran.{Ran}
+
+-- A run's code and machine.
+abbrev pub ranSays : Ran → Answer Machine
+ranSays a = answer (numberOf (a .code)) (a .machine)
+
+-- Record k of a log: twelve bytes.
+abbrev pub recordAt : List ℕ → ℕ → List ℕ
+recordAt log k = take 12 (drop (k * 12) log)
+
+-- The machine after the first k records.
+unfoldable pub stateAt : Machine → List ℕ → ℕ → Machine
+stateAt m log zero = m
+stateAt m log (suc k) = next (stateAt m log k) (recordAt log k)
+
+-- The answer to record k.
+abbrev pub answerAt : Machine → List ℕ → ℕ → Answer ℕ
+answerAt m log k = answered (stateAt m log k) (recordAt log k)
+
+-- An answer written into the rest of the buffer from a place on.
+abbrev pub writtenAt : ℕ → Answer ℕ → List ℕ → List ℕ
+writtenAt at a room = take at room ++ written (answerBytes (a .code) (a .value)) (drop at room)
+
+-- The answer buffer after the first k records.
+unfoldable pub roomAt : Machine → List ℕ → List ℕ → ℕ → List ℕ
+roomAt m log room zero = room
+roomAt m log room (suc k) = writtenAt (k * 8) (answerAt m log k) (roomAt m log room k)
+
+-- Runner, in order: machine not well-formed EINVAL; over 24,576 bytes EOVERFLOW; length no multiple of 12 EINVAL; room under 8 bytes a record
+-- ENOMEM.
+unfoldable pub runCode : Bool → ℕ → ℕ → ℤ
+runCode formed size room =
+    cond (not formed) EINVAL
+    (cond (ltb 24576 size) EOVERFLOW
+    (cond (not (eqb (size % 12) 0)) EINVAL
+    (cond (ltb room (size / 12 * 8)) ENOMEM
+    OK)))
+
+-- What goes with OK, and what with a refusal.
+abbrev pub onOK : {A : Type 0} → ℤ → A → A → A
+onOK code done refused = cond (isOK code) done refused
+
+-- The code and the machine of a run.
+unfoldable pub ran : Machine → List ℕ → ℕ → Answer Machine
+ran m log room =
+    answer (runCode (wellFormed m) (length log) room)
+    (onOK (runCode (wellFormed m) (length log) room) (stateAt m log (length log / 12)) m)
+
+-- The whole answer buffer of a run: bytes past the last answer stay, and a refused run writes none.
+unfoldable pub ranRoom : Machine → List ℕ → List ℕ → List ℕ
+ranRoom m log room =
+    onOK (runCode (wellFormed m) (length log) (length room)) (roomAt m log room (length log / 12)) room

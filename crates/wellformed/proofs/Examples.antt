@@ -1,0 +1,133 @@
+-- Worked examples, closed by computing: machines that are well-formed, and for each clause a machine that fails in that clause alone.
+-- Assumes nothing.
+use mathlib.Core.Path.{_≡_, refl}
+use mathlib.Core.Bool.{Bool, true, false}
+use mathlib.Core.List.{List, [], _∷_, map}
+use Prim.Native.Nat.{ℕ}
+use lib.Count.{ones}
+use lib.IntN.{pos}
+use lib.ListN.{set, replicate}
+use Rattle.words.specs.Bit.{bit}
+use Rattle.spinlock.specs.Lock.{freeRecord, validRecord}
+use Rattle.spinlock.specs.declared.Owner.{Owner}
+use Rattle.machine.specs.State.{cpuSlots, threadCount, lockCount, idleRun, threadMask, freshMachine}
+use Rattle.machine.specs.declared.Cpu.{Cpu}
+use Rattle.machine.specs.declared.Current.{Current}
+use Rattle.machine.specs.declared.Place.{Place}
+use Rattle.machine.specs.declared.Thread.{Thread}
+use Rattle.machine.specs.declared.Lock.{Lock}
+use Rattle.machine.specs.declared.Machine.{Machine}
+use Rattle.wellformed.specs.WellFormed.{
+  allBelow,
+  sumBelow,
+  sizeOk,
+  slotOk,
+  lockOk,
+  holdOk,
+  currentOk,
+  placeOk,
+  idleOk,
+  priorityOk,
+  maskOk,
+  wellFormed,
+}
+
+-- The nine tests, in 01's order.
+abbrev clauses : Machine → List Bool
+clauses m =
+    sizeOk m
+    ∷ allBelow (slotOk m) cpuSlots
+    ∷ allBelow (lockOk m) lockCount
+    ∷ allBelow (holdOk m) cpuSlots
+    ∷ allBelow (currentOk m) cpuSlots
+    ∷ allBelow (placeOk m) threadCount
+    ∷ allBelow (idleOk m) cpuSlots
+    ∷ allBelow (priorityOk m) threadCount
+    ∷ allBelow (maskOk m) threadCount
+    ∷ []
+
+-- A machine with one cell changed: CPU c, thread 0, or lock 0.
+abbrev withCpu : ℕ → Cpu → Machine → Machine
+withCpu c v m = record { n = m .n; «pin_only» = m .«pin_only»; cpus = set (m .cpus) c v; threads = m .threads; locks = m .locks }
+
+abbrev withThread : Thread → Machine → Machine
+withThread v m = record { n = m .n; «pin_only» = m .«pin_only»; cpus = m .cpus; threads = set (m .threads) 0 v; locks = m .locks }
+
+abbrev withLock : Lock → Machine → Machine
+withLock v m = record { n = m .n; «pin_only» = m .«pin_only»; cpus = m .cpus; threads = m .threads; locks = set (m .locks) 0 v }
+
+-- ---- well-formed machines
+
+-- Thread 0 runs on CPU 0 and holds lock 0 at depth 2. The word is its thread word 4 with CPU 0.
+abbrev holding : Machine
+holding =
+    withCpu 0 (record { run = record { active = true; current = Current.Thread (record { 0 = 0 }); priority = pos 0 }; hold = 2 })
+    (withThread (record { mask = 1; priority = pos 0; place = Place.On (record { 0 = 0 }) })
+    (withLock (record { state = record { owner = Owner.Thread 0; «nest_count» = 2; «irq_saved» = true }; word = 4 }) (freshMachine 1 true)))
+
+pub these-are-well-formed :
+    map wellFormed
+    (freshMachine 1 false ∷ freshMachine 1 true
+    ∷ freshMachine 2 false ∷ freshMachine 2 true
+    ∷ freshMachine 3 false ∷ freshMachine 3 true
+    ∷ freshMachine 4 false ∷ freshMachine 4 true
+    ∷ holding ∷ [])
+    ≡ replicate 9 true
+unfolding wellFormed allBelow sumBelow freshMachine threadMask validRecord ones bit
+these-are-well-formed = refl
+
+-- ---- machines that fail in one clause
+
+abbrev fiveCpus : Machine
+fiveCpus = freshMachine 5 false
+
+-- n is 1, and CPU 1 is up.
+abbrev unusedUp : Machine
+unusedUp = withCpu 1 (record { run = idleRun true; hold = 0 }) (freshMachine 1 false)
+
+abbrev freeWithWord : Machine
+freeWithWord = withLock (record { state = freeRecord; word = 4 }) (freshMachine 1 false)
+
+abbrev holdWithoutLock : Machine
+holdWithoutLock = withCpu 0 (record { run = idleRun true; hold = 1 }) (freshMachine 1 false)
+
+-- The CPU's priority is not its thread's.
+abbrev otherPriority : Machine
+otherPriority =
+    withCpu 0 (record { run = record { active = true; current = Current.Thread (record { 0 = 0 }); priority = pos 1 }; hold = 0 })
+    (withThread (record { mask = 1; priority = pos 0; place = Place.On (record { 0 = 0 }) }) (freshMachine 1 false))
+
+abbrev placedAndNotRun : Machine
+placedAndNotRun = withThread (record { mask = 1; priority = pos 0; place = Place.On (record { 0 = 0 }) }) (freshMachine 1 false)
+
+abbrev idleAtZero : Machine
+idleAtZero = withCpu 0 (record { run = record { active = true; current = Current.None; priority = pos 0 }; hold = 0 }) (freshMachine 1 false)
+
+abbrev threadAt128 : Machine
+threadAt128 = withThread (record { mask = 1; priority = pos 128; place = Place.Nowhere }) (freshMachine 1 false)
+
+abbrev pinnedToTwo : Machine
+pinnedToTwo = withThread (record { mask = 3; priority = pos 0; place = Place.Nowhere }) (freshMachine 1 true)
+
+abbrev broken : List Machine
+broken = fiveCpus ∷ unusedUp ∷ freeWithWord ∷ holdWithoutLock ∷ otherPriority ∷ placedAndNotRun ∷ idleAtZero ∷ threadAt128 ∷ pinnedToTwo ∷ []
+
+pub these-are-not : map wellFormed broken ≡ replicate 9 false
+unfolding wellFormed allBelow sumBelow freshMachine threadMask validRecord ones bit
+these-are-not = refl
+
+-- Each fails in its own clause, and in no other.
+pub each-clause-alone :
+    map clauses broken
+    ≡ (false ∷ true ∷ true ∷ true ∷ true ∷ true ∷ true ∷ true ∷ true ∷ [])
+    ∷ (true ∷ false ∷ true ∷ true ∷ true ∷ true ∷ true ∷ true ∷ true ∷ [])
+    ∷ (true ∷ true ∷ false ∷ true ∷ true ∷ true ∷ true ∷ true ∷ true ∷ [])
+    ∷ (true ∷ true ∷ true ∷ false ∷ true ∷ true ∷ true ∷ true ∷ true ∷ [])
+    ∷ (true ∷ true ∷ true ∷ true ∷ false ∷ true ∷ true ∷ true ∷ true ∷ [])
+    ∷ (true ∷ true ∷ true ∷ true ∷ true ∷ false ∷ true ∷ true ∷ true ∷ [])
+    ∷ (true ∷ true ∷ true ∷ true ∷ true ∷ true ∷ false ∷ true ∷ true ∷ [])
+    ∷ (true ∷ true ∷ true ∷ true ∷ true ∷ true ∷ true ∷ false ∷ true ∷ [])
+    ∷ (true ∷ true ∷ true ∷ true ∷ true ∷ true ∷ true ∷ true ∷ false ∷ [])
+    ∷ []
+unfolding allBelow sumBelow freshMachine threadMask validRecord ones bit
+each-clause-alone = refl

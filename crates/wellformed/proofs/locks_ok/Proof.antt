@@ -1,0 +1,40 @@
+-- The loop's invariant: `ok` says whether the test holds below `l`. The measure is what is left. Assumes nothing.
+use Prim.Native.Nat.{_≤_, _-_}
+use mathlib.Core.Path.{_≡_}
+use borrow.Author.Needs.{needs}
+use native.Mathlib.Omega.{arith}
+use Rattle.wellformed.proofs.Tests.{all-more}
+use Rattle.wellformed.specs.WellFormed.{allBelow, lockOk}
+use Rattle.machine.specs.State.{lockCount}
+use Rattle.wellformed.proofs.locks_ok.Statement.{statement}
+use Rattle.wellformed.proofs.locks_ok.Tie as tie
+
+abbrev Inv-loop : tie.InvT-loop
+Inv-loop m ok₀ l₀ ok l = (l ≤ lockCount) × (allBelow (lockOk m) l ≡ ok)
+
+abbrev μ-loop : tie.MeasureT-loop
+μ-loop m ok₀ l₀ ok l = lockCount - l
+
+loop-holds : tie.Need-loop-holds Inv-loop μ-loop
+unfolding allBelow
+loop-holds c = search needs
+
+lock-ok-requires : tie.Need-lock-ok-requires Inv-loop μ-loop
+lock-ok-requires c κs = search needs
+
+add-l : tie.Need-add-l Inv-loop μ-loop
+add-l c = search needs
+
+loop-less : tie.Need-loop-less Inv-loop μ-loop
+loop-less c = search needs
+
+loop-again : tie.Need-loop-again Inv-loop μ-loop
+loop-again c = (search needs, cc (all-more _ _))
+
+returns : tie.Need-returns Inv-loop μ-loop
+returns c = let all : c .before .loop .l ≡ lockCount = omega arith in cc
+
+pub locks-ok-spec : {M : Type 1} → statement M
+locks-ok-spec =
+    tie.close
+    (tie.spec Inv-loop μ-loop loop-holds lock-ok-requires add-l loop-less loop-again returns)

@@ -1,0 +1,415 @@
+// Well-formedness: the test that step and runner put to a machine before they work on it.
+//
+// New here: upstream has the single rules and no machine. 01, "The machine", "Well-formed": nine clauses, each a function for one index and a
+// loop over them. proofs/Facts.antt says the clauses as facts, and that the test is true exactly where they hold.
+ghost use mathlib.Core.Path.{_≡_};
+ghost use Prim.Native.Nat.{_<_, _≤_};
+ghost use Rattle.words.specs.Bit.{bit};
+ghost use Rattle.machine.specs.State.{cpuSlots, threadCount, lockCount};
+ghost use Rattle.wellformed.specs.WellFormed.{
+  allBelow,
+  eqZ,
+  runs as WellFormed·runs,
+  isPlace,
+  sizeOk,
+  slotOk,
+  ownerOk,
+  lockOk,
+  depthFor,
+  holdOk,
+  currentBy,
+  currentOk,
+  placeOk,
+  idleOk,
+  inRange,
+  priorityOk,
+  maskOk,
+  wellFormed,
+};
+use machine::CPU_SLOTS;
+use machine::CpuId;
+use machine::Current;
+use machine::IDLE_PRIORITY;
+use machine::LOCKS;
+use machine::Lock;
+use machine::LockId;
+use machine::Machine;
+use machine::Place;
+use machine::Run;
+use machine::THREADS;
+use machine::Thread;
+use machine::ThreadId;
+use spinlock::Owner;
+use spinlock_validate::TAG_CPUS;
+
+// The least and the greatest priority of a thread.
+const LEAST_PRIORITY: i32 = -128;
+
+const GREATEST_PRIORITY: i32 = 127;
+
+// Whether two priorities are equal, by two tests of order, as `eqZ` says it.
+fn same_priority(a: i32, b: i32) -> bool
+    ensures { λ r. ⌜ r ≡ eqZ a b ⌝ }
+{
+    if a < b {
+        return false;
+    }
+    !(b < a)
+}
+
+// Whether the CPU with this run cell carries the thread's priority.
+fn carries(run: Run, thread: Thread) -> bool
+    ensures { λ r. ⌜ r ≡ eqZ (run .priority) (thread .priority) ⌝ }
+{
+    let carried = run.priority;
+    let priority = thread.priority;
+    same_priority(carried, priority)
+}
+
+// Whether the thread is current on the CPU.
+fn runs(m: Machine, c: CpuId, t: ThreadId) -> bool
+    requires { ⌜ c .0 < cpuSlots ⌝ }
+    ensures { λ r. ⌜ r ≡ WellFormed·runs m (c .0) (t .0) ⌝ }
+{
+    let at = c.0 as usize;
+    let cpu = m.cpus[at];
+    let run = cpu.run;
+    let current = run.current;
+    match current {
+        Current::None => false,
+        Current::Thread(s) => s.0 == t.0,
+    }
+}
+
+// Whether the place is the CPU.
+fn is_place(place: Place, c: CpuId) -> bool
+    ensures { λ r. ⌜ r ≡ isPlace place (c .0) ⌝ }
+{
+    match place {
+        Place::Nowhere => false,
+        Place::On(d) => d.0 == c.0,
+    }
+}
+
+// Whether the mask has the CPU's bit.
+fn allows(mask: u32, c: CpuId) -> bool
+    requires { ⌜ c .0 < cpuSlots ⌝ }
+    ensures { λ r. ⌜ r ≡ bit (c .0) mask ⌝ }
+{
+    mask & (1u32 << c.0) != 0
+}
+
+// n is 1 to 4.
+fn size_ok(m: Machine) -> bool
+    ensures { λ r. ⌜ r ≡ sizeOk m ⌝ }
+{
+    if m.n < 1 {
+        return false;
+    }
+    m.n <= CPU_SLOTS
+}
+
+// An unused CPU slot is down with hold 0.
+fn slot_ok(m: Machine, c: CpuId) -> bool
+    requires { ⌜ c .0 < cpuSlots ⌝ }
+    ensures { λ r. ⌜ r ≡ slotOk m (c .0) ⌝ }
+{
+    if c.0 < m.n {
+        return true;
+    }
+    let at = c.0 as usize;
+    let cpu = m.cpus[at];
+    let run = cpu.run;
+    if run.active {
+        return false;
+    }
+    cpu.hold == 0
+}
+
+fn slots_ok(m: Machine) -> bool
+    ensures { λ r. ⌜ r ≡ allBelow (slotOk m) cpuSlots ⌝ }
+{
+    let mut ok = true;
+    let mut c: u32 = 0;
+    while c < CPU_SLOTS {
+        ok = ok & slot_ok(m, CpuId(c));
+        c += 1;
+    }
+    ok
+}
+
+// A held lock has its flag set, and its word is made from its owner's thread word and a CPU below n on which that owner is current.
+fn held_ok(m: Machine, k: Lock, t: ThreadId) -> bool
+    ensures { λ r. ⌜ r ≡ ownerOk m k (Owner.Thread (t .0)) ⌝ }
+{
+    let state = k.state;
+    if !state.irq_saved {
+        return false;
+    }
+    let tag = k.word % TAG_CPUS as u64;
+    if k.word != machine::thread_word(t) + tag {
+        return false;
+    }
+    let cpu = tag as u32;
+    if cpu < m.n {
+        runs(m, CpuId(cpu), t)
+    } else {
+        false
+    }
+}
+
+// A lock is a valid record, and free with word 0 or held as above.
+fn lock_ok(m: Machine, l: LockId) -> bool
+    requires { ⌜ l .0 < lockCount ⌝ }
+    ensures { λ r. ⌜ r ≡ lockOk m (l .0) ⌝ }
+{
+    let at = l.0 as usize;
+    let k = m.locks[at];
+    let state = k.state;
+    if !state.valid() {
+        return false;
+    }
+    let owner = state.owner;
+    match owner {
+        Owner::None => k.word == 0,
+        Owner::Thread(t) => held_ok(m, k, ThreadId(t)),
+    }
+}
+
+fn locks_ok(m: Machine) -> bool
+    ensures { λ r. ⌜ r ≡ allBelow (lockOk m) lockCount ⌝ }
+{
+    let mut ok = true;
+    let mut l: u32 = 0;
+    while l < LOCKS {
+        ok = ok & lock_ok(m, LockId(l));
+        l += 1;
+    }
+    ok
+}
+
+// The depth of a lock whose word names the CPU, and 0 of another. Word 0 names nobody.
+fn depth_for(k: Lock, c: CpuId) -> u32
+    ensures { λ r. ⌜ r ≡ depthFor k (c .0) ⌝ }
+{
+    if k.word == 0 {
+        return 0;
+    }
+    let state = k.state;
+    if k.word % TAG_CPUS as u64 == c.0 as u64 {
+        state.nest_count
+    } else {
+        0
+    }
+}
+
+// Hold is the sum of depths of locks whose word names that CPU.
+fn hold_ok(m: Machine, c: CpuId) -> bool
+    requires { ⌜ c .0 < cpuSlots ⌝ }
+    ensures { λ r. ⌜ r ≡ holdOk m (c .0) ⌝ }
+{
+    let mut sum: u64 = 0;
+    let mut l: usize = 0;
+    while l < LOCKS as usize {
+        let k = m.locks[l];
+        sum = sum + depth_for(k, c) as u64;
+        l += 1;
+    }
+    let at = c.0 as usize;
+    let cpu = m.cpus[at];
+    cpu.hold as u64 == sum
+}
+
+fn holds_ok(m: Machine) -> bool
+    ensures { λ r. ⌜ r ≡ allBelow (holdOk m) cpuSlots ⌝ }
+{
+    let mut ok = true;
+    let mut c: u32 = 0;
+    while c < CPU_SLOTS {
+        ok = ok & hold_ok(m, CpuId(c));
+        c += 1;
+    }
+    ok
+}
+
+// A current thread is below 32 and its CPU is active, carries its priority, is its place, and is allowed by its mask.
+fn thread_fits(m: Machine, c: CpuId, t: ThreadId) -> bool
+    requires { ⌜ c .0 < cpuSlots ⌝ }
+    ensures { λ r. ⌜ r ≡ currentBy m (c .0) (Current.Thread t) ⌝ }
+{
+    if t.0 >= THREADS {
+        return false;
+    }
+    let at = c.0 as usize;
+    let cpu = m.cpus[at];
+    let run = cpu.run;
+    if !run.active {
+        return false;
+    }
+    let number = t.0 as usize;
+    let thread = m.threads[number];
+    if !carries(run, thread) {
+        return false;
+    }
+    let place = thread.place;
+    if !is_place(place, c) {
+        return false;
+    }
+    allows(thread.mask, c)
+}
+
+fn current_ok(m: Machine, c: CpuId) -> bool
+    requires { ⌜ c .0 < cpuSlots ⌝ }
+    ensures { λ r. ⌜ r ≡ currentOk m (c .0) ⌝ }
+{
+    let at = c.0 as usize;
+    let cpu = m.cpus[at];
+    let run = cpu.run;
+    let current = run.current;
+    match current {
+        Current::None => true,
+        Current::Thread(t) => thread_fits(m, c, t),
+    }
+}
+
+fn currents_ok(m: Machine) -> bool
+    ensures { λ r. ⌜ r ≡ allBelow (currentOk m) cpuSlots ⌝ }
+{
+    let mut ok = true;
+    let mut c: u32 = 0;
+    while c < CPU_SLOTS {
+        ok = ok & current_ok(m, CpuId(c));
+        c += 1;
+    }
+    ok
+}
+
+// A placed thread is the current thread of the CPU below n that is its place.
+fn place_ok(m: Machine, t: ThreadId) -> bool
+    requires { ⌜ m .n ≤ cpuSlots ⌝ }
+    requires { ⌜ t .0 < threadCount ⌝ }
+    ensures { λ r. ⌜ r ≡ placeOk m (t .0) ⌝ }
+{
+    let at = t.0 as usize;
+    let thread = m.threads[at];
+    let place = thread.place;
+    match place {
+        Place::Nowhere => true,
+        Place::On(cpu) => if cpu.0 < m.n { runs(m, cpu, t) } else { false },
+    }
+}
+
+fn places_ok(m: Machine) -> bool
+    requires { ⌜ m .n ≤ cpuSlots ⌝ }
+    ensures { λ r. ⌜ r ≡ allBelow (placeOk m) threadCount ⌝ }
+{
+    let mut ok = true;
+    let mut t: u32 = 0;
+    while t < THREADS {
+        ok = ok & place_ok(m, ThreadId(t));
+        t += 1;
+    }
+    ok
+}
+
+// No current thread means priority 128.
+fn idle_ok(m: Machine, c: CpuId) -> bool
+    requires { ⌜ c .0 < cpuSlots ⌝ }
+    ensures { λ r. ⌜ r ≡ idleOk m (c .0) ⌝ }
+{
+    let at = c.0 as usize;
+    let cpu = m.cpus[at];
+    let run = cpu.run;
+    let current = run.current;
+    let priority = run.priority;
+    match current {
+        Current::None => same_priority(priority, IDLE_PRIORITY),
+        Current::Thread(_) => true,
+    }
+}
+
+fn idles_ok(m: Machine) -> bool
+    ensures { λ r. ⌜ r ≡ allBelow (idleOk m) cpuSlots ⌝ }
+{
+    let mut ok = true;
+    let mut c: u32 = 0;
+    while c < CPU_SLOTS {
+        ok = ok & idle_ok(m, CpuId(c));
+        c += 1;
+    }
+    ok
+}
+
+fn in_range(priority: i32) -> bool
+    ensures { λ r. ⌜ r ≡ inRange priority ⌝ }
+{
+    if priority < LEAST_PRIORITY {
+        return false;
+    }
+    !(GREATEST_PRIORITY < priority)
+}
+
+// Thread priorities lie in -128..127.
+fn priority_ok(m: Machine, t: ThreadId) -> bool
+    requires { ⌜ t .0 < threadCount ⌝ }
+    ensures { λ r. ⌜ r ≡ priorityOk m (t .0) ⌝ }
+{
+    let at = t.0 as usize;
+    let thread = m.threads[at];
+    let priority = thread.priority;
+    in_range(priority)
+}
+
+fn priorities_ok(m: Machine) -> bool
+    ensures { λ r. ⌜ r ≡ allBelow (priorityOk m) threadCount ⌝ }
+{
+    let mut ok = true;
+    let mut t: u32 = 0;
+    while t < THREADS {
+        ok = ok & priority_ok(m, ThreadId(t));
+        t += 1;
+    }
+    ok
+}
+
+// Under pin-only each mask has one bit.
+fn mask_ok(m: Machine, t: ThreadId) -> bool
+    requires { ⌜ t .0 < threadCount ⌝ }
+    ensures { λ r. ⌜ r ≡ maskOk m (t .0) ⌝ }
+{
+    if !m.pin_only {
+        return true;
+    }
+    let at = t.0 as usize;
+    let thread = m.threads[at];
+    cpu_mask::validate_pin_mask(thread.mask)
+}
+
+fn masks_ok(m: Machine) -> bool
+    ensures { λ r. ⌜ r ≡ allBelow (maskOk m) threadCount ⌝ }
+{
+    let mut ok = true;
+    let mut t: u32 = 0;
+    while t < THREADS {
+        ok = ok & mask_ok(m, ThreadId(t));
+        t += 1;
+    }
+    ok
+}
+
+// Whether a machine is well-formed. n is tested first: with n at most 4, every CPU below n has a slot.
+pub fn well_formed(m: Machine) -> bool
+    ensures { λ r. ⌜ r ≡ wellFormed m ⌝ }
+{
+    if !size_ok(m) {
+        return false;
+    }
+    slots_ok(m)
+        & locks_ok(m)
+        & holds_ok(m)
+        & currents_ok(m)
+        & places_ok(m)
+        & idles_ok(m)
+        & priorities_ok(m)
+        & masks_ok(m)
+}
