@@ -40,7 +40,7 @@ word-taggable : (c t : ℕ) → c < cpuSlots → Taggable tagBits c (threadWord 
 word-taggable c t h = record { below = h; some = omega arith; aligned = omega arith }
 
 -- The lock records of a well-formed machine are valid.
-lock-valid : (m : Machine) → WellFormed m → (l : ℕ) → l < lockCount → validRecord (lockAt m l .state) ≡ true
+pub lock-valid : (m : Machine) → WellFormed m → (l : ℕ) → l < lockCount → validRecord (lockAt m l .state) ≡ true
 unfolding validRecord
 lock-valid m w l h = go (lockAt m l .state .owner) refl
   where
@@ -82,7 +82,7 @@ module _ (m : Machine) (w : WellFormed m) (c l t : ℕ) (hc : c < m .n) (hl : l 
 
   -- An own lock: its word names the CPU.
   module _ (owned : lockAt m l .state .owner ≡ Owner.Thread t) where
-    named : cpuOf tagBits (lockAt m l .word) ≡ c
+    pub named : cpuOf tagBits (lockAt m l .word) ≡ c
     named =
         let was = w .held l hl t owned in
         let below = was .below in
@@ -93,7 +93,7 @@ module _ (m : Machine) (w : WellFormed m) (c l t : ℕ) (hc : c < m .n) (hl : l 
     depth-is : depthFor (lockAt m l) c ≡ lockAt m l .state .«nest_count»
     depth-is = depth-named (lockAt m l) c (held-word m (lockAt m l) t (w .held l hl t owned)) named
 
-    hold-least : lockAt m l .state .«nest_count» ≤ cpuAt m c .hold
+    pub hold-least : lockAt m l .state .«nest_count» ≤ cpuAt m c .hold
     hold-least =
         let term : depthFor (lockAt m l) c ≤ sumBelow (λ i. depthFor (lockAt m i) c) lockCount = sum-term (λ i. depthFor (lockAt m i) c) lockCount l hl in
         omega (arith, depth-is, w .hold c hc′)

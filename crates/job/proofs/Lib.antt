@@ -1,0 +1,3 @@
+pub mod NoInheritance
+pub mod Exclusion
+pub mod Undone

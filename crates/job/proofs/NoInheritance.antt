@@ -1,0 +1,189 @@
+-- No inheritance: a thread that has no place and a CPU that has no thread own no lock at any depth. So the thread that was just taken off a
+-- CPU leaves none behind, and the thread that was just put there finds none. Assumes nothing.
+use mathlib.Core.Path.{_≡_, refl, ap, sym, _∙_}
+use mathlib.Core.Logic.{_≢_}
+use mathlib.Core.Bool.{Bool, true, false, _&&_, _||_, not, cond, false≢true}
+use mathlib.Core.List.{List, [], _∷_}
+use Prim.Native.Nat.{ℕ, zero, suc, _<_}
+use native.Mathlib.Omega.{arith}
+use lib.Dec.{eqb, ltb}
+use borrow.Author.Tests.{ltb-true, ne-eqb}
+use Rattle.error.specs.Codes.{isOK}
+use Rattle.error.specs.Answer.{Answer}
+use Rattle.words.specs.Bit.{bit}
+use Rattle.words.specs.Tag.{cpuOf, threadOf}
+use Rattle.words.proofs.Choice.{and-left, and-right}
+use Rattle.words.proofs.Tags.{thread-back}
+use Rattle.spinlock_validate.specs.Owner.{tagBits}
+use Rattle.spinlock.specs.declared.Owner.{Owner}
+use Rattle.machine.specs.State.{cpuSlots, threadCount, lockCount, threadWord, cpuAt, threadAt, lockAt}
+use Rattle.machine.specs.declared.Current.{Current}
+use Rattle.machine.specs.declared.Place.{Place}
+use Rattle.machine.specs.declared.Run.{Run}
+use Rattle.machine.specs.declared.Cpu.{Cpu}
+use Rattle.machine.specs.declared.Thread.{Thread}
+use Rattle.machine.specs.declared.CpuId.{CpuId}
+use Rattle.machine.specs.declared.ThreadId.{ThreadId}
+use Rattle.machine.specs.declared.Machine.{Machine}
+use Rattle.order.specs.Outcome.{Outcome, refuse, accept, answerOf}
+use Rattle.order.specs.Cells.{commit, after}
+use Rattle.record.specs.Record.{requestOf}
+use Rattle.record.specs.declared.Request.{Request}
+use Rattle.record.proofs.Range.{inRange, request-in-range}
+use Rattle.rules.specs.Rules as Rules
+use Rattle.runner.specs.Cells.{run, thread, machineStore}
+use Rattle.runner.specs.Operations.{two}
+use Rattle.runner.specs.Step.{answered, next}
+use Rattle.wellformed.specs.WellFormed.{names, depthFor, sumBelow, wellFormed}
+use Rattle.wellformed.proofs.Facts.{WellFormed, says}
+use Rattle.kept.proofs.Apart.{none-or-thread, nowhere-or-on}
+use Rattle.kept.proofs.Lengths.{Lengths}
+use Rattle.kept.proofs.Stored.{cpu-there, thread-there}
+use Rattle.kept.proofs.Accepted.{Accepting, Puts, put-accepted, Takes, take-accepted}
+use Rattle.kept.proofs.Seats.{reseated}
+use Rattle.kept.proofs.Seated.{take-kept}
+use Rattle.job.specs.Job.{OwnsNothing, HoldsNothing, Accepted}
+
+-- A lock is free, or some thread's.
+owner-cases : (A : Type 0) (o : Owner) → (o ≡ Owner.None → A) → ((t : ℕ) → o ≡ Owner.Thread t → A) → A
+owner-cases A Owner.None none some = none refl
+owner-cases A (Owner.Thread t) none some = some t refl
+
+sum-of-zeros : (f : ℕ → ℕ) (k : ℕ) → ((i : ℕ) → i < k → f i ≡ 0) → sumBelow f k ≡ 0
+unfolding sumBelow
+sum-of-zeros f zero zeros = refl
+sum-of-zeros f (suc k) zeros =
+    let before : sumBelow f k ≡ 0 = sum-of-zeros f k (λ i h. zeros i (omega arith)) in
+    let last : f k ≡ 0 = zeros k (omega arith) in
+    omega arith
+
+module _ (m : Machine) (w : WellFormed m) where
+  -- The owner of a lock has a place.
+  owner-placed : (l : ℕ) → l < lockCount → (t : ℕ) → lockAt m l .state .owner ≡ Owner.Thread t → threadAt m t .place ≢ Place.Nowhere
+  owner-placed l h t e nowhere =
+      let was = w .held l h t e in
+      let below = was .below in
+      nowhere-or-on (sym nowhere ∙ w .current _ (omega (arith, w .few)) (record { 0 = t }) (was .current) .place)
+
+  -- The thread word in a lock's word is its owner's.
+  word-thread : (l : ℕ) → l < lockCount → (t : ℕ) → lockAt m l .state .owner ≡ Owner.Thread t
+      → threadOf tagBits (lockAt m l .word) ≡ threadWord t
+  word-thread l h t e =
+      let was = w .held l h t e in
+      let below = was .below in
+      let few = w .few in
+      ap (threadOf tagBits) (was .word)
+      ∙ thread-back tagBits (cpuOf tagBits (lockAt m l .word)) (threadWord t) (record { below = omega arith; some = omega arith; aligned = omega arith })
+
+  -- A thread that has no place owns no lock.
+  pub no-place : (t : ℕ) → threadAt m t .place ≡ Place.Nowhere → OwnsNothing m t
+  no-place t nowhere =
+      record {
+        owner = λ l h e. owner-placed l h t e nowhere;
+        word = λ l h e. owner-cases ⊥ (lockAt m l .state .owner)
+            (λ none. let z = w .free l h none .word in let z′ : threadOf tagBits (lockAt m l .word) ≡ 0 = rw z in omega arith)
+            (λ u some.
+            let same : u ≡ t = let d = word-thread l h u some in omega arith in
+            owner-placed l h u some (rw same nowhere));
+      }
+
+  -- A CPU that has no thread holds no lock.
+  no-thread : (c : ℕ) → cpuAt m c .run .current ≡ Current.None → (l : ℕ) → l < lockCount → names (lockAt m l .word) c ≡ false
+  no-thread c idle l h =
+      owner-cases (names (lockAt m l .word) c ≡ false) (lockAt m l .state .owner)
+      (λ none. rw (w .free l h none .word))
+      (λ t some.
+      let other : cpuOf tagBits (lockAt m l .word) ≢ c = λ e.
+      none-or-thread (sym idle ∙ ap (λ x. cpuAt m x .run .current) (sym e) ∙ w .held l h t some .current) in
+      and-false (not (eqb (lockAt m l .word) 0)) (eqb (cpuOf tagBits (lockAt m l .word)) c) (ne-eqb _ _ other))
+    where
+      and-false : (a b : Bool) → b ≡ false → a && b ≡ false
+      and-false true b e = e
+      and-false false b e = refl
+
+  pub no-current : (c : ℕ) → c < cpuSlots → cpuAt m c .run .current ≡ Current.None → HoldsNothing m c
+  no-current c h idle =
+      record {
+        word = no-thread c idle;
+        hold = w .hold c h ∙ sum-of-zeros (λ l. depthFor (lockAt m l) c) lockCount (λ l b. rw (no-thread c idle l b));
+      }
+
+-- A refusal never has the code OK.
+abbrev pub Honest : {W : Type 0} → Outcome (Answer ℕ) W → Type 0
+Honest (refuse a) = isOK (a .code) ≡ false
+Honest (accept a v) = Unit {0}
+
+honest-past : {W : Type 0} (t : Bool) (a : Answer ℕ) (o : Outcome (Answer ℕ) W) → isOK (a .code) ≡ false → Honest o → Honest (cond t (refuse a) o)
+honest-past true a o e h = e
+honest-past false a o e h = h
+
+take-honest : (t h : ℕ) (r : Run) (k : Thread) → Honest (Rules.take t h r k)
+unfolding Rules.take
+take-honest t h r k = honest-past (not (Rules.isCurrent (r .current) t)) _ _ refl (honest-past (not (eqb h 0)) _ _ refl tt)
+
+put-honest : (c t : ℕ) (r : Run) (k : Thread) → Honest (Rules.put c t r k)
+unfolding Rules.put
+put-honest c t r k =
+    honest-past (not (r .active)) _ _ refl
+    (honest-past (Rules.occupied (r .current) || Rules.placed (k .place)) _ _ refl (honest-past (not (bit c (k .mask))) _ _ refl tt))
+
+-- A put or a take that answers OK has stored a run and a thread.
+seat-done : (m : Machine) (c t : ℕ) (Q : Run × Thread → Type 0) (P : Machine → Type 0) (o : Outcome (Answer ℕ) (Run × Thread)) → Accepting Q o → Honest o
+    → isOK (answerOf (two o) .code) ≡ true → ((v : Run × Thread) → Q v → P (reseated m c t (v .0) (v .1)))
+    → P (commit machineStore (Answer ℕ) (run c ∷ thread t ∷ []) (two o) m)
+seat-done m c t Q P (refuse a) q honest ok f = absurd (false≢true (sym honest ∙ ok))
+seat-done m c t Q P (accept a v) q honest ok f = f v q
+
+-- The thread and the CPU own nothing.
+abbrev Nothing : ℕ → ℕ → Machine → Type 0
+Nothing c t m = OwnsNothing m t × HoldsNothing m c
+
+module _ (m : Machine) (s : Lengths m) (w : WellFormed m) (c t : ℕ) (hc : c < m .n) (ht : t < threadCount) where
+  inside : c < cpuSlots
+  inside = let few = w .few in omega arith
+
+  taken-off : (v : Run × Thread) → Takes t (cpuAt m c .hold) (cpuAt m c .run) (threadAt m t) v → Nothing c t (reseated m c t (v .0) (v .1))
+  taken-off v e =
+      let then : WellFormed (reseated m c t (v .0) (v .1)) = take-kept m s w c t hc ht v e in
+      let nowhere : threadAt (reseated m c t (v .0) (v .1)) t .place ≡ Place.Nowhere =
+      ap (λ (x : Thread). x .place) (thread-there m s t (v .1) ht) ∙ ap (λ (x : Run × Thread). x .1 .place) (e .is) in
+      let idle : cpuAt (reseated m c t (v .0) (v .1)) c .run .current ≡ Current.None =
+      ap (λ (x : Cpu). x .run .current) (cpu-there m s c _ inside) ∙ ap (λ (x : Run × Thread). x .0 .current) (e .is) in
+      (no-place _ then t nowhere, no-current _ then c inside idle)
+
+  put-on : (v : Run × Thread) → Puts c t (cpuAt m c .run) (threadAt m t) v → Nothing c t (reseated m c t (v .0) (v .1))
+  put-on v e =
+      let owns = no-place m w t (e .nowhere) in
+      let holds = no-current m w c inside (e .idle) in (
+        record { owner = owns .owner; word = owns .word },
+        record { word = holds .word; hold = ap (λ (x : Cpu). x .hold) (cpu-there m s c _ inside) ∙ holds .hold },
+      )
+
+-- Right after an accepted take, and right after an accepted put, no lock's record or word names that thread, nor that CPU.
+module _ (m : Machine) (s : Lengths m) (good : wellFormed m ≡ true) (bytes : List ℕ) (c : CpuId) (t : ThreadId) where
+  in-range : (r : Request) → requestOf (m .n) bytes ≡ r → inRange (m .n) r ≡ true
+  in-range r e = ap (inRange (m .n)) (sym e) ∙ request-in-range (m .n) bytes
+
+  pub after-take : Accepted m bytes (Request.Take c t) → Nothing (c .0) (t .0) (next m bytes)
+  unfolding next answered
+  after-take a =
+      let e = in-range (Request.Take c t) (a .asks) in
+      let hc = ltb-true (c .0) (m .n) (and-left (ltb (c .0) (m .n)) _ e) in
+      let ht = ltb-true (t .0) threadCount (and-right (ltb (c .0) (m .n)) _ e) in
+      rw (a .asks)
+      (seat-done m (c .0) (t .0) _ (Nothing (c .0) (t .0)) (Rules.take (t .0) (cpuAt m (c .0) .hold) (cpuAt m (c .0) .run) (threadAt m (t .0)))
+      (take-accepted (t .0) (cpuAt m (c .0) .hold) (cpuAt m (c .0) .run) (threadAt m (t .0)))
+      (take-honest (t .0) (cpuAt m (c .0) .hold) (cpuAt m (c .0) .run) (threadAt m (t .0)))
+      (rw (a .asks) at (a .ok)) (taken-off m s (says m good) (c .0) (t .0) hc ht))
+
+  pub after-put : Accepted m bytes (Request.Put c t) → Nothing (c .0) (t .0) (next m bytes)
+  unfolding next answered
+  after-put a =
+      let e = in-range (Request.Put c t) (a .asks) in
+      let hc = ltb-true (c .0) (m .n) (and-left (ltb (c .0) (m .n)) _ e) in
+      let ht = ltb-true (t .0) threadCount (and-right (ltb (c .0) (m .n)) _ e) in
+      rw (a .asks)
+      (seat-done m (c .0) (t .0) _ (Nothing (c .0) (t .0)) (Rules.put (c .0) (t .0) (cpuAt m (c .0) .run) (threadAt m (t .0)))
+      (put-accepted (c .0) (t .0) (cpuAt m (c .0) .run) (threadAt m (t .0)))
+      (put-honest (c .0) (t .0) (cpuAt m (c .0) .run) (threadAt m (t .0)))
+      (rw (a .asks) at (a .ok)) (put-on m s (says m good) (c .0) (t .0) hc ht))

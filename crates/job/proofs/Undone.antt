@@ -1,0 +1,205 @@
+-- Nothing is lost: a release right after an accepted nested acquire by the same CPU is accepted, and the machine is the one before the two.
+-- Assumes nothing.
+use mathlib.Core.Path.{_≡_, refl, ap, ap₂, sym, _∙_}
+use mathlib.Core.Bool.{true, false, not, cond, false≢true}
+use mathlib.Core.List.{List, [], _∷_}
+use Prim.Native.Nat.{ℕ, zero, suc, _-_, _<_}
+use native.Mathlib.Omega.{arith}
+use lib.ListN.{set, getD}
+use lib.Dec.{ltb}
+use borrow.Author.Tests.{ltb-true, lt-ltb, eq-eqb}
+use Rattle.error.specs.Codes.{OK, isOK}
+use Rattle.error.specs.Answer.{Answer, answer}
+use Rattle.words.specs.Tag.{wordOf}
+use Rattle.words.proofs.Choice.{bool-ind, and-left, and-right}
+use Rattle.words.proofs.Tags.{Taggable}
+use Rattle.spinlock_validate.specs.Owner.{tagBits}
+use Rattle.spinlock_validate.proofs.Laws.{makes, unlock-own}
+use Rattle.error.proofs.Answers.{same-value}
+use Rattle.spinlock.specs.Table.{codeOf}
+use Rattle.spinlock.specs.Lock.{freeRecord, takenBy, deeper, validRecord, situationOf, after, operate}
+use Rattle.spinlock.specs.declared.Owner.{Owner}
+use Rattle.spinlock.specs.declared.SpinlockState.{SpinlockState}
+use Rattle.spinlock.specs.declared.Operation.{Operation}
+use Rattle.spinlock.specs.declared.Situation.{Situation}
+use Rattle.spinlock.proofs.Situations.{HeldBy, View, free, own, full, foreign, view}
+use Rattle.spinlock.proofs.Laws.{operated, nested, release-undoes, acquire-then-release}
+use Rattle.order.specs.Outcome.{Outcome, refuse, accept, answerOf}
+use Rattle.order.specs.Cells.{commit}
+use Rattle.machine.specs.State.{cpuSlots, lockCount, threadWord, noCpu, freeLock, cpuAt, lockAt}
+use Rattle.machine.specs.declared.Current.{Current}
+use Rattle.machine.specs.declared.CpuId.{CpuId}
+use Rattle.machine.specs.declared.LockId.{LockId}
+use Rattle.machine.specs.declared.Run.{Run}
+use Rattle.machine.specs.declared.Cpu.{Cpu}
+use Rattle.machine.specs.declared.Lock.{Lock}
+use Rattle.machine.specs.declared.Machine.{Machine}
+use Rattle.record.specs.declared.Request.{Request}
+use Rattle.record.proofs.Range.{inRange, request-in-range}
+use Rattle.rules.specs.Rules.{elsewhere, ruled, wordAfter, settled, lockBy, lockOp, moved}
+use Rattle.wellformed.specs.WellFormed.{wellFormed}
+use Rattle.wellformed.proofs.Facts.{Runs, WellFormed, says}
+use Rattle.runner.specs.Cells.{hold, lock, put, machineStore}
+use Rattle.runner.specs.Operations.{withHold}
+use Rattle.runner.specs.Step.{answered, next}
+use Rattle.kept.proofs.Depths.{hold-most}
+use Rattle.kept.proofs.Lengths.{Lengths}
+use Rattle.kept.proofs.Stored.{cpu-there, lock-there}
+use Rattle.kept.proofs.Accepted.{Accepting}
+use Rattle.kept.proofs.Locked.{named, lock-valid}
+use Rattle.job.specs.Job.{Accepted, Gives}
+use Rattle.job.proofs.NoInheritance.{Honest}
+use Rattle.job.proofs.Exclusion.{lock-honest}
+
+-- A release of this lock, by the CPU's thread, gives back the lock of the machine.
+pub record Undone (m : Machine) (c l : ℕ) (v : Lock) : Type 0 where
+  pub back : lockOp Operation.Release c (cpuAt m c .run) v ≡ accept (answer OK (lockAt m l .state .«nest_count»)) (lockAt m l)
+
+module _ (m : Machine) (w : WellFormed m) (c l t : ℕ) (hc : c < m .n) (hl : l < lockCount) (runs : Runs m c t) where
+  taggable : Taggable tagBits c (threadWord t)
+  taggable = let few = w .few in record { below = omega arith; some = omega arith; aligned = omega arith }
+
+  -- Thread t's lock whose word is that of c and t is not elsewhere.
+  here : (v : Lock) → v .state .owner ≡ Owner.Thread t → v .word ≡ wordOf c (threadWord t) → elsewhere c t v ≡ false
+  here v owner word =
+      rw (owner, word, eq-eqb t t refl, same-value (unlock-own tagBits c (threadWord t) (wordOf c (threadWord t)) (makes tagBits c (threadWord t) taggable)))
+
+  released : (v : Lock) → v .state .owner ≡ Owner.Thread t → v .word ≡ wordOf c (threadWord t)
+      → operate Operation.Release (v .state) t ≡ answer OK (lockAt m l .state) → wordAfter c t v (lockAt m l .state) ≡ lockAt m l .word → Undone m c l v
+  unfolding lockOp
+  released v owner word rule after-word = record { back = by-current (cpuAt m c .run .current) runs }
+    where
+      gives : settled c t v (ruled Operation.Release c t v) ≡ accept (answer OK (lockAt m l .state .«nest_count»)) (lockAt m l)
+      gives = rw (here v owner word, rule, after-word)
+
+      by-current : (o : Current) → o ≡ Current.Thread (record { 0 = t })
+          → lockBy Operation.Release c o v ≡ accept (answer OK (lockAt m l .state .«nest_count»)) (lockAt m l)
+      by-current o e = rw e gives
+
+  -- A free lock that was taken, and an own one that went a level up.
+  taken : lockAt m l .state ≡ freeRecord → Undone m c l (record { state = takenBy t; word = wordAfter c t (lockAt m l) (takenBy t) })
+  unfolding operate validRecord situationOf codeOf after
+  taken e =
+      let none : lockAt m l .state .owner ≡ Owner.None = ap (λ (x : SpinlockState). x .owner) e in
+      let made : wordAfter c t (lockAt m l) (takenBy t) ≡ wordOf c (threadWord t) = rw none (same-value (makes tagBits c (threadWord t) taggable)) in
+      released _ refl made (acquire-then-release t .1 ∙ ap (answer OK) (sym e)) (rw none (sym (w .free l hl none .word)))
+
+  nested-up : HeldBy (lockAt m l .state) t → operate Operation.Release (deeper (lockAt m l .state)) t ≡ answer OK (lockAt m l .state)
+      → Undone m c l (record { state = deeper (lockAt m l .state); word = wordAfter c t (lockAt m l) (deeper (lockAt m l .state)) })
+  nested-up mine rule =
+      let owner = mine .owner in
+      let same : wordAfter c t (lockAt m l) (deeper (lockAt m l .state)) ≡ lockAt m l .word = rw owner in
+      let made : lockAt m l .word ≡ wordOf c (threadWord t) =
+      w .held l hl t owner .word ∙ ap (λ x. wordOf x (threadWord t)) (named m w c l t hc hl runs owner) in
+      released _ owner (same ∙ made) rule (rw owner)
+
+  by-view : {sit : Situation} → View (lockAt m l .state) t sit
+      → (codeOf Operation.Nested sit ≡ OK → operate Operation.Release (after Operation.Nested sit (lockAt m l .state) t) t ≡ answer OK (lockAt m l .state))
+      → Accepting (Undone m c l) (settled c t (lockAt m l) (answer (codeOf Operation.Nested sit) (after Operation.Nested sit (lockAt m l .state) t)))
+  unfolding codeOf after
+  by-view (free e) rule = taken e
+  by-view (own mine _) rule = nested-up mine (rule refl)
+  by-view (full _ _) rule = tt
+  by-view (foreign _ _ _) rule = tt
+
+  by-rule : Accepting (Undone m c l) (settled c t (lockAt m l) (ruled Operation.Nested c t (lockAt m l)))
+  unfolding codeOf
+  by-rule =
+      bool-ind
+      (λ b. Accepting (Undone m c l)
+      (settled c t (lockAt m l)
+      (cond b (answer (codeOf Operation.Nested Situation.Foreign) (lockAt m l .state)) (operate Operation.Nested (lockAt m l .state) t))))
+      (elsewhere c t (lockAt m l)) (λ _. tt) (λ _.
+      let valid = lock-valid m w l hl in
+      let rule = operated Operation.Nested (lockAt m l .state) t valid refl in
+      rw rule
+      (by-view (view (lockAt m l .state) t valid)
+      (λ ok. ap (λ (a : Answer SpinlockState). operate Operation.Release (a .value) t) (sym rule)
+      ∙ release-undoes Operation.Nested nested (lockAt m l .state) t (ap (λ (a : Answer SpinlockState). a .code) rule ∙ ok))))
+
+nested-undone : (m : Machine) → WellFormed m → (c l : ℕ) → c < m .n → l < lockCount
+    → Accepting (Undone m c l) (lockOp Operation.Nested c (cpuAt m c .run) (lockAt m l))
+unfolding lockOp
+nested-undone m w c l hc hl = go (cpuAt m c .run .current) refl
+  where
+    go : (o : Current) → cpuAt m c .run .current ≡ o → Accepting (Undone m c l) (lockBy Operation.Nested c o (lockAt m l))
+    go Current.None e = tt
+    go (Current.Thread t) e = by-rule m w c l (t .0) hc hl e
+
+-- What is stored over a place, and then what stood there, leaves a list as it was.
+set-back : {A : Type 0} (xs : List A) (i : ℕ) (v d : A) → set (set xs i v) i (getD xs i d) ≡ xs
+set-back [] i v d = refl
+set-back (x ∷ xs) zero v d = refl
+set-back (x ∷ xs) (suc i) v d = ap (λ (r : List _). x ∷ r) (set-back xs i v d)
+
+-- The machine with lock l and the hold of CPU c changed, and changed back.
+module _ (m : Machine) (s : Lengths m) (c l : ℕ) (hc : c < cpuSlots) (hl : l < lockCount) where
+  abbrev relocked : ℕ → Lock → Machine → Machine
+  relocked h v x = put (lock l) v (put (hold c) h x)
+
+  changed-back : (h : ℕ) (v : Lock) → relocked (cpuAt m c .hold) (lockAt m l) (relocked h v m) ≡ m
+  changed-back h v =
+      λ i. record { n = m .n; «pin_only» = m .«pin_only»; cpus = same-cpus i; threads = m .threads; locks = set-back (m .locks) l v freeLock i }
+    where
+      there : cpuAt (relocked h v m) c .run ≡ cpuAt m c .run
+      there = ap (λ (x : Cpu). x .run) (cpu-there m s c (record { run = cpuAt m c .run; hold = h }) hc)
+
+      same-cpus : relocked (cpuAt m c .hold) (lockAt m l) (relocked h v m) .cpus ≡ m .cpus
+      same-cpus =
+          ap (λ (r : Run). set (set (m .cpus) c (record { run = cpuAt m c .run; hold = h })) c (record { run = r; hold = cpuAt m c .hold })) there
+          ∙ set-back (m .cpus) c (record { run = cpuAt m c .run; hold = h }) noCpu
+
+  abbrev freed : Machine → Outcome (Answer ℕ) (Lock × (ℕ × Unit {0}))
+  freed x = withHold Operation.Release (cpuAt x c .hold) (lockOp Operation.Release c (cpuAt x c .run) (lockAt x l))
+
+  -- The release's outcome on the machine after the acquire.
+  release-outcome : (h : ℕ) (v : Lock) → h - 1 ≡ cpuAt m c .hold → Undone m c l v
+      → freed (relocked h v m) ≡ accept (answer OK (lockAt m l .state .«nest_count»)) (lockAt m l, (cpuAt m c .hold, tt))
+  release-outcome h v less u =
+      let cpu : cpuAt (relocked h v m) c ≡ record { run = cpuAt m c .run; hold = h } = cpu-there m s c _ hc in
+      let k : lockAt (relocked h v m) l ≡ v = lock-there m s l v hl in
+      ap₂ (λ (x : Cpu) (y : Lock). withHold Operation.Release (x .hold) (lockOp Operation.Release c (x .run) y)) cpu k
+      ∙ ap (withHold Operation.Release h) (u .back)
+      ∙ ap (λ (x : ℕ). accept (answer OK (lockAt m l .state .«nest_count»)) (lockAt m l, (x, tt))) less
+
+  -- An accepted nested acquire, then the release: accepted, and the machine as it was.
+  abbrev Restored : Machine → Type 0
+  Restored x = (commit machineStore (Answer ℕ) (lock l ∷ hold c ∷ []) (freed x) x ≡ m) × (isOK (answerOf (freed x) .code) ≡ true)
+
+  restored : (h : ℕ) (v : Lock) → h - 1 ≡ cpuAt m c .hold → Undone m c l v → Restored (relocked h v m)
+  restored h v less u =
+      let out = release-outcome h v less u in (
+        ap (λ (o : Outcome (Answer ℕ) (Lock × (ℕ × Unit {0}))). commit machineStore (Answer ℕ) (lock l ∷ hold c ∷ []) o (relocked h v m)) out ∙ changed-back h v,
+        ap (λ (o : Outcome (Answer ℕ) (Lock × (ℕ × Unit {0}))). isOK (answerOf o .code)) out,
+      )
+
+module _ (m : Machine) (s : Lengths m) (w : WellFormed m) (c : CpuId) (l : LockId) (hc : c .0 < m .n) (hl : l .0 < lockCount) where
+  inside : c .0 < cpuSlots
+  inside = let few = w .few in omega arith
+
+  one-less : moved Operation.Nested (cpuAt m (c .0) .hold) - 1 ≡ cpuAt m (c .0) .hold
+  one-less = rw (lt-ltb (cpuAt m (c .0) .hold) 0xffff_ffff (hold-most m w (c .0) inside)) (omega arith)
+
+  gives : (v : Lock) → Undone m (c .0) (l .0) v → Gives m c l (relocked m s (c .0) (l .0) inside hl (moved Operation.Nested (cpuAt m (c .0) .hold)) v m)
+  unfolding next answered
+  gives v u bytes asks =
+      rw asks (restored m s (c .0) (l .0) inside hl (moved Operation.Nested (cpuAt m (c .0) .hold)) v one-less u)
+
+  after-nested : (o : Outcome (Answer ℕ) Lock) → Accepting (Undone m (c .0) (l .0)) o → Honest o
+      → isOK (answerOf (withHold Operation.Nested (cpuAt m (c .0) .hold) o) .code) ≡ true
+      → Gives m c l (commit machineStore (Answer ℕ) (lock (l .0) ∷ hold (c .0) ∷ []) (withHold Operation.Nested (cpuAt m (c .0) .hold) o) m)
+  after-nested (refuse a) u e ok = absurd (false≢true (sym e ∙ ok))
+  after-nested (accept a v) u e ok = gives v u
+
+-- An accepted nested acquire of lock l by CPU c, and then a release of it by that CPU: the machine before is the machine after.
+pub nothing-lost : (m : Machine) → Lengths m → wellFormed m ≡ true → (bytes : List ℕ) (c : CpuId) (l : LockId)
+    → Accepted m bytes (Request.Nested c l) → Gives m c l (next m bytes)
+unfolding next answered lockOp
+nothing-lost m s good bytes c l a =
+    let e = ap (inRange (m .n)) (sym (a .asks)) ∙ request-in-range (m .n) bytes in
+    let hc = ltb-true (c .0) (m .n) (and-left (ltb (c .0) (m .n)) _ e) in
+    let hl = ltb-true (l .0) lockCount (and-right (ltb (c .0) (m .n)) _ e) in
+    rw (a .asks)
+    (after-nested m s (says m good) c l hc hl (lockOp Operation.Nested (c .0) (cpuAt m (c .0) .run) (lockAt m (l .0)))
+    (nested-undone m (says m good) (c .0) (l .0) hc hl)
+    (lock-honest Operation.Nested (c .0) (cpuAt m (c .0) .run .current) (lockAt m (l .0))) (rw (a .asks) at (a .ok)))

@@ -1,0 +1,113 @@
+-- Demand 3 at the bytes: what the runner and the program write for a rearranged log. Assumes nothing.
+use mathlib.Core.Path.{_≡_, refl, ap, sym, _∙_}
+use mathlib.Core.Bool.{Bool, true, false, not, cond, false≢true}
+use mathlib.Core.List.{List, _∷_}
+use Prim.Native.Nat.{ℕ, suc, _*_, _/_, _%_, _≤_, _<_}
+use native.Mathlib.Omega.{arith}
+use lib.Dec.{eqb, ltb}
+use lib.IntN.{ℤ}
+use lib.ListN.{length}
+use borrow.Author.Tests.{ltb-false, ne-eqb}
+use Rattle.error.specs.Codes.{OK, ENOMEM, EINVAL, EOVERFLOW, isOK}
+use Rattle.machine.specs.State.{setup}
+use Rattle.machine.specs.declared.Machine.{Machine}
+use Rattle.record.specs.Answer.{answerBytes}
+use Rattle.wellformed.specs.WellFormed.{wellFormed}
+use Rattle.runner.specs.Run.{stateAt, answerAt, roomAt, runCode, ran, ranRoom}
+use Rattle.program.specs.Program.{inputCode, refusalRoom, respondSize, respondRoom}
+use Rattle.rearranged.specs.Rearranged.{Rearranged, SameRun, place, SameBytes, SameResponse}
+use Rattle.rearranged.proofs.Places.{answer-in-place}
+use Rattle.rearranged.proofs.Laws.{rearranged-log}
+
+-- A log that is run has room for its answers.
+last-test : (a b c d : Bool) → isOK (cond a EINVAL (cond b EOVERFLOW (cond c EINVAL (cond d ENOMEM OK)))) ≡ true → d ≡ false
+last-test true b c d e = absurd (false≢true e)
+last-test false true c d e = absurd (false≢true e)
+last-test false false true d e = absurd (false≢true e)
+last-test false false false true e = absurd (false≢true e)
+last-test false false false false e = refl
+
+room-enough : (formed : Bool) (size room : ℕ) → isOK (runCode formed size room) ≡ true → size / 12 * 8 ≤ room
+unfolding runCode
+room-enough formed size room e = ltb-false room (size / 12 * 8) (last-test (not formed) (ltb 24576 size) (not (eqb (size % 12) 0)) _ e)
+
+-- What a run leaves in its room.
+run-room : (m : Machine) (log room : List ℕ) → isOK (ran m log (length room) .code) ≡ true
+    → ranRoom m log room ≡ roomAt m log room (length log / 12)
+unfolding ran ranRoom
+run-room m log room e = rw e
+
+refused-room : (m : Machine) (log room : List ℕ) → isOK (ran m log (length room) .code) ≡ false → ranRoom m log room ≡ room
+unfolding ran ranRoom
+refused-room m log room e = rw e
+
+place-of-run : (m : Machine) (log room : List ℕ) → isOK (ran m log (length room) .code) ≡ true → (k : ℕ) → k < length log / 12
+    → place (ranRoom m log room) k ≡ answerBytes (answerAt m log k .code) (answerAt m log k .value)
+unfolding ran
+place-of-run m log room e k h =
+    ap (λ r. place r k) (run-room m log room e)
+    ∙ answer-in-place m log room (length log / 12) (room-enough (wellFormed m) (length log) (length room) e) k h
+
+same-end : (m : Machine) (old new : List ℕ) (room : ℕ) → length new ≡ length old
+    → stateAt m new (length old / 12) ≡ stateAt m old (length old / 12) → ran m new room ≡ ran m old room
+unfolding ran
+same-end m old new room size state = rw (size, state)
+
+-- The runner.
+pub rearranged-bytes : (m : Machine) (old new room : List ℕ) (π : ℕ → ℕ) → length new ≡ length old
+    → Rearranged (m .n) (length old / 12) old new π → SameBytes m old new room π
+rearranged-bytes m old new room π size r =
+    let same : SameRun m (length old / 12) old new π = rearranged-log m (length old / 12) old new π r in
+    let end : ran m new (length room) ≡ ran m old (length room) = same-end m old new (length room) size (same .state) in
+    record {
+      end = end;
+      each = λ ok k h.
+          place-of-run m new room (ap (λ x. isOK (x .code)) end ∙ ok) k (rw size h)
+          ∙ ap (λ a. answerBytes (a .code) (a .value)) (same .each k h)
+          ∙ sym (place-of-run m old room ok (π k) (r .permutes .below k h));
+      refused = λ bad. refused-room m new room (ap (λ x. isOK (x .code)) end ∙ bad) ∙ sym (refused-room m old room bad);
+    }
+
+-- The program's code is the setup's, if that refuses, and else the run's.
+input-code : (s : ℕ) (log : List ℕ) (room : ℕ)
+    → inputCode (s ∷ log) room ≡ cond (isOK (setup s .code)) (ran (setup s .value) log room .code) (setup s .code)
+unfolding inputCode
+input-code s log room = rw (ne-eqb (suc (length log)) 0 (λ e. omega arith))
+
+run-accepts : (good : Bool) (ran made : ℤ) → isOK made ≡ good → isOK (cond good ran made) ≡ true → isOK ran ≡ true
+run-accepts true ran made e ok = ok
+run-accepts false ran made e ok = absurd (false≢true (sym e ∙ ok))
+
+accepted-room : (s : ℕ) (log room : List ℕ) → isOK (inputCode (s ∷ log) (length room)) ≡ true
+    → respondRoom (s ∷ log) room ≡ ranRoom (setup s .value) log room
+unfolding respondRoom
+accepted-room s log room ok = rw ok
+
+refused-response : (s : ℕ) (log room : List ℕ) → isOK (inputCode (s ∷ log) (length room)) ≡ false
+    → respondRoom (s ∷ log) room ≡ refusalRoom (inputCode (s ∷ log) (length room)) room
+unfolding respondRoom
+refused-response s log room bad = rw bad
+
+same-size : (s : ℕ) (old new : List ℕ) (room : ℕ) → length new ≡ length old → inputCode (s ∷ new) room ≡ inputCode (s ∷ old) room
+    → respondSize (s ∷ new) room ≡ respondSize (s ∷ old) room
+unfolding respondSize
+same-size s old new room size code = rw (code, size)
+
+-- The program.
+pub rearranged-response : (s : ℕ) (old new room : List ℕ) (π : ℕ → ℕ) → length new ≡ length old
+    → Rearranged (setup s .value .n) (length old / 12) old new π → SameResponse s old new room π
+rearranged-response s old new room π size r =
+    let same : SameBytes (setup s .value) old new room π = rearranged-bytes (setup s .value) old new room π size r in
+    let code : inputCode (s ∷ new) (length room) ≡ inputCode (s ∷ old) (length room) =
+    input-code s new (length room)
+    ∙ ap (λ a. cond (isOK (setup s .code)) (a .code) (setup s .code)) (same .end)
+    ∙ sym (input-code s old (length room)) in
+    record {
+      size = same-size s old new (length room) size code;
+      each = λ ok k h.
+          let runs = run-accepts (isOK (setup s .code)) _ (setup s .code) refl (ap isOK (sym (input-code s old (length room))) ∙ ok) in
+          ap (λ x. place x k) (accepted-room s new room (ap isOK code ∙ ok)) ∙ same .each runs k h
+          ∙ sym (ap (λ x. place x (π k)) (accepted-room s old room ok));
+      refused = λ bad.
+          refused-response s new room (ap isOK code ∙ bad) ∙ ap (λ c. refusalRoom c room) code ∙ sym (refused-response s old room bad);
+    }

@@ -1,0 +1,3 @@
+pub mod Clash
+pub mod Rearranged
+pub mod Exhibit
