@@ -16,7 +16,7 @@ use Rattle.words.proofs.Choice.{and-left, and-right}
 use Rattle.words.proofs.Tags.{thread-back}
 use Rattle.spinlock_validate.specs.Owner.{tagBits}
 use Rattle.spinlock.specs.declared.Owner.{Owner}
-use Rattle.machine.specs.State.{cpuSlots, threadCount, lockCount, threadWord, cpuAt, threadAt, lockAt}
+use Rattle.machine.specs.State.{cpuSlots, threadCount, lockCount, threadWord, isCurrent, cpuAt, threadAt, lockAt}
 use Rattle.machine.specs.declared.Current.{Current}
 use Rattle.machine.specs.declared.Place.{Place}
 use Rattle.machine.specs.declared.Run.{Run}
@@ -119,7 +119,7 @@ honest-past false a o e h = h
 
 take-honest : (t h : ℕ) (r : Run) (k : Thread) → Honest (Rules.take t h r k)
 unfolding Rules.take
-take-honest t h r k = honest-past (not (Rules.isCurrent (r .current) t)) _ _ refl (honest-past (not (eqb h 0)) _ _ refl tt)
+take-honest t h r k = honest-past (not (isCurrent (r .current) t)) _ _ refl (honest-past (not (eqb h 0)) _ _ refl tt)
 
 put-honest : (c t : ℕ) (r : Run) (k : Thread) → Honest (Rules.put c t r k)
 unfolding Rules.put

@@ -1,5 +1,5 @@
 -- What it takes for a rule on run cells and threads to accept, and what it then hands back. Assumes nothing.
-use mathlib.Core.Path.{_≡_, refl, sym, ap}
+use mathlib.Core.Path.{_≡_, refl, sym}
 use mathlib.Core.Bool.{Bool, true, false, _||_, not, cond, false≢true}
 use Prim.Native.Nat.{ℕ}
 use lib.Dec.{eqb}
@@ -12,12 +12,13 @@ use Rattle.words.specs.Bit.{bit, bitNot}
 use Rattle.words.proofs.Choice.{bool-ind}
 use Rattle.cpu_mask.specs.Mask.{maskBits, newMask, validatePinMask, cpuMaskMod}
 use Rattle.order.specs.Outcome.{Outcome, refuse, accept}
-use Rattle.machine.specs.State.{idleRun}
+use Rattle.machine.specs.State.{isCurrent, idleRun}
 use Rattle.machine.specs.declared.Current.{Current}
 use Rattle.machine.specs.declared.Place.{Place}
 use Rattle.machine.specs.declared.Run.{Run}
 use Rattle.machine.specs.declared.Thread.{Thread}
-use Rattle.rules.specs.Rules.{occupied, isCurrent, placed, up, down, seated, put, unseated, take, remasked, mask, cpuBit, pin, priority}
+use Rattle.machine.proofs.CurrentThread.{is-current}
+use Rattle.rules.specs.Rules.{occupied, placed, up, down, seated, put, unseated, take, remasked, mask, cpuBit, pin, priority}
 
 -- An outcome that is accepted hands back a value with Q.
 abbrev pub Accepting : {A W : Type 0} → (W → Type 0) → Outcome A W → Type 0
@@ -31,10 +32,6 @@ not-occupied (Current.Thread t) e = absurd (false≢true (sym e))
 not-placed : (place : Place) → placed place ≡ false → place ≡ Place.Nowhere
 not-placed Place.Nowhere e = refl
 not-placed (Place.On c) e = absurd (false≢true (sym e))
-
-is-current : (current : Current) (t : ℕ) → isCurrent current t ≡ true → current ≡ Current.Thread (record { 0 = t })
-is-current Current.None t e = absurd (false≢true e)
-is-current (Current.Thread s) t e = ap (λ (n : ℕ). Current.Thread (record { 0 = n })) (eqb-true (s .0) t e)
 
 neither-left : (a b : Bool) → a || b ≡ false → a ≡ false
 neither-left true b e = e

@@ -36,6 +36,11 @@ lockCount = 128
 abbrev pub threadWord : ℕ → ℕ
 threadWord t = 4 * (t + 1)
 
+-- Thread t is the current one.
+abbrev pub isCurrent : Current → ℕ → Bool
+isCurrent Current.None t = false
+isCurrent (Current.Thread s) t = eqb (s .0) t
+
 -- An idle or down CPU has priority 128.
 abbrev pub idleRun : Bool → Run
 idleRun active = record { active = active; current = Current.None; priority = pos 128 }

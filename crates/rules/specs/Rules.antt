@@ -19,7 +19,7 @@ use Rattle.cpu_mask.specs.Mask.{maskBits, cpuMaskMod, cpuPinCompute}
 use Rattle.ipi.specs.Ipi.{maxIpiCpus, noCpu, computeIpiMask}
 use Rattle.ipi.specs.declared.CpuRecord.{CpuRecord}
 use Rattle.order.specs.Outcome.{Outcome, refuse, accept, accepted}
-use Rattle.machine.specs.State.{threadWord, idleRun}
+use Rattle.machine.specs.State.{threadWord, isCurrent, idleRun}
 use Rattle.machine.specs.declared.Current.{Current}
 use Rattle.machine.specs.declared.Place.{Place}
 use Rattle.machine.specs.declared.Run.{Run}
@@ -58,11 +58,6 @@ done value cells = accept (answer OK value) cells
 abbrev pub occupied : Current → Bool
 occupied Current.None = false
 occupied (Current.Thread t) = true
-
--- The CPU has this thread.
-abbrev pub isCurrent : Current → ℕ → Bool
-isCurrent Current.None t = false
-isCurrent (Current.Thread s) t = eqb (s .0) t
 
 -- The thread has a place.
 abbrev pub placed : Place → Bool

@@ -9,7 +9,7 @@ ghost use Rattle.words.specs.Bit.{bit};
 ghost use Rattle.spinlock.specs.Lock.{changedSays, held, owns, operate as Lock·operate};
 ghost use Rattle.cpu_mask.specs.Mask.{maskSays};
 ghost use Rattle.order.specs.Outcome.{appliedTo};
-ghost use Rattle.machine.specs.State.{idleRun};
+ghost use Rattle.machine.specs.State.{isCurrent, idleRun};
 ghost use Rattle.rules.specs.Rules.{
   runSays,
   seatSays,
@@ -17,7 +17,6 @@ ghost use Rattle.rules.specs.Rules.{
   lockSays,
   valueSays,
   occupied,
-  isCurrent,
   placed,
   up as Rules·up,
   down as Rules·down,

@@ -22,15 +22,16 @@ use Rattle.machine.specs.declared.Current.{Current}
 use Rattle.machine.specs.declared.Place.{Place}
 use Rattle.machine.specs.declared.Lock.{Lock}
 use Rattle.machine.specs.declared.Machine.{Machine}
+use Rattle.machine.proofs.CurrentThread.{is-current, current-is}
 use Rattle.wellformed.specs.WellFormed.{
   allBelow,
   sumBelow,
   eqZ,
-  isCurrent,
   isPlace,
   sizeOk,
   slotOk,
   ownerOk,
+  lockBy,
   lockOk,
   depthFor,
   holdOk,
@@ -99,13 +100,6 @@ pub record WellFormed (m : Machine) : Type 0 where
 
 -- ---- each test and its facts
 
-is-current : (current : Current) (t : ℕ) → isCurrent current t ≡ true → current ≡ Current.Thread (record { 0 = t })
-is-current Current.None t e = let o : _≡_ {A = ℕ} 0 1 = cc in absurd (omega arith)
-is-current (Current.Thread s) t e = let same = eqb-true (s .0) t e in ap (λ (n : ℕ). Current.Thread (record { 0 = n })) same
-
-current-is : (current : Current) (t : ℕ) → current ≡ Current.Thread (record { 0 = t }) → isCurrent current t ≡ true
-current-is current t e = rw e (eq-eqb t t refl)
-
 is-place : (place : Place) (c : ℕ) → isPlace place c ≡ true → place ≡ Place.On (record { 0 = c })
 is-place Place.Nowhere c e = let o : _≡_ {A = ℕ} 0 1 = cc in absurd (omega arith)
 is-place (Place.On d) c e = let same = eqb-true (d .0) c e in ap (λ (n : ℕ). Place.On (record { 0 = n })) same
@@ -128,8 +122,7 @@ slot-back m c f = go (below-or c (m .n))
     go (inl h) = rw (lt-ltb c (m .n) h)
     go (inr h) = let u = f h in rw (le-ltb c (m .n) h, u .down, u .hold)
 
-free-says : (m : Machine) (k : Lock) → validRecord (k .state) && ownerOk m k (k .state .owner) ≡ true → k .state .owner ≡ Owner.None
-    → FreeLock k
+free-says : (m : Machine) (k : Lock) → lockBy (m .n) (m .cpus) k ≡ true → k .state .owner ≡ Owner.None → FreeLock k
 unfolding validRecord
 free-says m k e none =
     let test : (eqb (k .state .«nest_count») 0 && not (k .state .«irq_saved»)) && eqb (k .word) 0 ≡ true = rw none at e in
@@ -140,13 +133,12 @@ free-says m k e none =
       word = eqb-true (k .word) 0 (and-right (eqb (k .state .«nest_count») 0 && not (k .state .«irq_saved»)) _ test);
     }
 
-held-says : (m : Machine) (k : Lock) (t : ℕ) → validRecord (k .state) && ownerOk m k (k .state .owner) ≡ true
-    → k .state .owner ≡ Owner.Thread t → HeldLock m k t
+held-says : (m : Machine) (k : Lock) (t : ℕ) → lockBy (m .n) (m .cpus) k ≡ true → k .state .owner ≡ Owner.Thread t → HeldLock m k t
 unfolding validRecord
 held-says m k t e owned =
     let depth = k .state .«nest_count» in
     let cpu = cpuOf tagBits (k .word) in
-    let test : (ltb 0 depth && leb depth maxNestDepth) && ownerOk m k (Owner.Thread t) ≡ true = rw owned at e in
+    let test : (ltb 0 depth && leb depth maxNestDepth) && ownerOk (m .n) (m .cpus) k (Owner.Thread t) ≡ true = rw owned at e in
     let valid = and-left (ltb 0 depth && leb depth maxNestDepth) _ test in
     let owner = and-right (ltb 0 depth && leb depth maxNestDepth) _ test in
     let made = and-right (k .state .«irq_saved») _ owner in
@@ -161,13 +153,12 @@ held-says m k t e owned =
     }
 
 lock-back : (m : Machine) (k : Lock) → (k .state .owner ≡ Owner.None → FreeLock k)
-    → ((t : ℕ) → k .state .owner ≡ Owner.Thread t → HeldLock m k t)
-    → validRecord (k .state) && ownerOk m k (k .state .owner) ≡ true
+    → ((t : ℕ) → k .state .owner ≡ Owner.Thread t → HeldLock m k t) → lockBy (m .n) (m .cpus) k ≡ true
 unfolding validRecord
 lock-back m k free held = go (k .state .owner) free held
   where
     go : (o : Owner) → (o ≡ Owner.None → FreeLock k) → ((t : ℕ) → o ≡ Owner.Thread t → HeldLock m k t)
-        → validBy o (k .state .«nest_count») (k .state .«irq_saved») && ownerOk m k o ≡ true
+        → validBy o (k .state .«nest_count») (k .state .«irq_saved») && ownerOk (m .n) (m .cpus) k o ≡ true
     go Owner.None f h =
         let facts = f refl in
         both (both (eq-eqb _ _ (facts .depth)) (ap not (facts .flag))) (eq-eqb _ _ (facts .word))
@@ -181,7 +172,7 @@ current-says : (m : Machine) (c : ℕ) (t : ThreadId) → currentOk m c ≡ true
 current-says m c t e runs =
     let cpu = cpuAt m c .run in
     let thread = threadAt m (t .0) in
-    let test : currentBy m c (Current.Thread t) ≡ true = rw runs at e in
+    let test : currentBy (m .threads) c cpu (Current.Thread t) ≡ true = rw runs at e in
     let up = and-right (ltb (t .0) threadCount) _ test in
     let carries = and-right (cpu .active) _ up in
     let seat = and-right (eqZ (cpu .priority) (thread .priority)) _ carries in
@@ -197,7 +188,7 @@ current-back : (m : Machine) (c : ℕ) → ((t : ThreadId) → cpuAt m c .run .c
     → currentOk m c ≡ true
 current-back m c = go (cpuAt m c .run .current)
   where
-    go : (o : Current) → ((t : ThreadId) → o ≡ Current.Thread t → Carried m c (t .0)) → currentBy m c o ≡ true
+    go : (o : Current) → ((t : ThreadId) → o ≡ Current.Thread t → Carried m c (t .0)) → currentBy (m .threads) c (cpuAt m c .run) o ≡ true
     go Current.None f = refl
     go (Current.Thread t) f =
         let facts = f t refl in
@@ -206,7 +197,7 @@ current-back m c = go (cpuAt m c .run .current)
 
 place-says : (m : Machine) (t : ℕ) (c : CpuId) → placeOk m t ≡ true → threadAt m t .place ≡ Place.On c → Placed m t (c .0)
 place-says m t c e placed =
-    let test : placeBy m t (Place.On c) ≡ true = rw placed at e in
+    let test : placeBy (m .n) (m .cpus) t (Place.On c) ≡ true = rw placed at e in
     record {
       below = ltb-true (c .0) (m .n) (and-left (ltb (c .0) (m .n)) _ test);
       current = is-current (cpuAt m (c .0) .run .current) t (and-right (ltb (c .0) (m .n)) _ test);
@@ -215,7 +206,7 @@ place-says m t c e placed =
 place-back : (m : Machine) (t : ℕ) → ((c : CpuId) → threadAt m t .place ≡ Place.On c → Placed m t (c .0)) → placeOk m t ≡ true
 place-back m t = go (threadAt m t .place)
   where
-    go : (o : Place) → ((c : CpuId) → o ≡ Place.On c → Placed m t (c .0)) → placeBy m t o ≡ true
+    go : (o : Place) → ((c : CpuId) → o ≡ Place.On c → Placed m t (c .0)) → placeBy (m .n) (m .cpus) t o ≡ true
     go Place.Nowhere f = refl
     go (Place.On c) f = let facts = f c refl in both (lt-ltb _ _ (facts .below)) (current-is _ t (facts .current))
 

@@ -1,7 +1,8 @@
 // Well-formedness: the test that step and runner put to a machine before they work on it.
 //
 // New here: upstream has the single rules and no machine. 01, "The machine", "Well-formed": nine clauses, each a function for one index and a
-// loop over them. proofs/Facts.antt says the clauses as facts, and that the test is true exactly where they hold.
+// loop over them. The loop hands over the elements that the function looks at and not the machine, which is 4 KB; hold alone is a sum over
+// every lock. proofs/Facts.antt says the clauses as facts, and that the test is true exactly where they hold.
 ghost use mathlib.Core.Path.{_≡_};
 ghost use Prim.Native.Nat.{_<_, _≤_};
 ghost use Rattle.words.specs.Bit.{bit};
@@ -12,27 +13,32 @@ ghost use Rattle.wellformed.specs.WellFormed.{
   runs as WellFormed·runs,
   isPlace,
   sizeOk,
+  slotBy,
   slotOk,
   ownerOk,
+  lockBy,
   lockOk,
   depthFor,
   holdOk,
   currentBy,
   currentOk,
+  placeBy,
   placeOk,
+  idleBy,
   idleOk,
   inRange,
   priorityOk,
+  maskBy,
   maskOk,
   wellFormed,
 };
 use machine::CPU_SLOTS;
+use machine::Cpu;
 use machine::CpuId;
 use machine::Current;
 use machine::IDLE_PRIORITY;
 use machine::LOCKS;
 use machine::Lock;
-use machine::LockId;
 use machine::Machine;
 use machine::Place;
 use machine::Run;
@@ -67,12 +73,12 @@ fn carries(run: Run, thread: Thread) -> bool
 }
 
 // Whether the thread is current on the CPU.
-fn runs(m: Machine, c: CpuId, t: ThreadId) -> bool
+fn runs(cpus: [Cpu; 4], c: CpuId, t: ThreadId) -> bool
     requires { ⌜ c .0 < cpuSlots ⌝ }
-    ensures { λ r. ⌜ r ≡ WellFormed·runs m (c .0) (t .0) ⌝ }
+    ensures { λ r. ⌜ r ≡ WellFormed·runs cpus (c .0) (t .0) ⌝ }
 {
     let at = c.0 as usize;
-    let cpu = m.cpus[at];
+    let cpu = cpus[at];
     let run = cpu.run;
     let current = run.current;
     match current {
@@ -110,15 +116,12 @@ fn size_ok(m: Machine) -> bool
 }
 
 // An unused CPU slot is down with hold 0.
-fn slot_ok(m: Machine, c: CpuId) -> bool
-    requires { ⌜ c .0 < cpuSlots ⌝ }
-    ensures { λ r. ⌜ r ≡ slotOk m (c .0) ⌝ }
+fn slot_ok(n: u32, c: CpuId, cpu: Cpu) -> bool
+    ensures { λ r. ⌜ r ≡ slotBy n (c .0) cpu ⌝ }
 {
-    if c.0 < m.n {
+    if c.0 < n {
         return true;
     }
-    let at = c.0 as usize;
-    let cpu = m.cpus[at];
     let run = cpu.run;
     if run.active {
         return false;
@@ -132,15 +135,17 @@ fn slots_ok(m: Machine) -> bool
     let mut ok = true;
     let mut c: u32 = 0;
     while c < CPU_SLOTS {
-        ok = ok & slot_ok(m, CpuId(c));
+        let at = c as usize;
+        let cpu = m.cpus[at];
+        ok = ok & slot_ok(m.n, CpuId(c), cpu);
         c += 1;
     }
     ok
 }
 
 // A held lock has its flag set, and its word is made from its owner's thread word and a CPU below n on which that owner is current.
-fn held_ok(m: Machine, k: Lock, t: ThreadId) -> bool
-    ensures { λ r. ⌜ r ≡ ownerOk m k (Owner.Thread (t .0)) ⌝ }
+fn held_ok(n: u32, cpus: [Cpu; 4], k: Lock, t: ThreadId) -> bool
+    ensures { λ r. ⌜ r ≡ ownerOk n cpus k (Owner.Thread (t .0)) ⌝ }
 {
     let state = k.state;
     if !state.irq_saved {
@@ -151,20 +156,17 @@ fn held_ok(m: Machine, k: Lock, t: ThreadId) -> bool
         return false;
     }
     let cpu = tag as u32;
-    if cpu < m.n {
-        runs(m, CpuId(cpu), t)
+    if cpu < n {
+        runs(cpus, CpuId(cpu), t)
     } else {
         false
     }
 }
 
 // A lock is a valid record, and free with word 0 or held as above.
-fn lock_ok(m: Machine, l: LockId) -> bool
-    requires { ⌜ l .0 < lockCount ⌝ }
-    ensures { λ r. ⌜ r ≡ lockOk m (l .0) ⌝ }
+fn lock_ok(n: u32, cpus: [Cpu; 4], k: Lock) -> bool
+    ensures { λ r. ⌜ r ≡ lockBy n cpus k ⌝ }
 {
-    let at = l.0 as usize;
-    let k = m.locks[at];
     let state = k.state;
     if !state.valid() {
         return false;
@@ -172,7 +174,7 @@ fn lock_ok(m: Machine, l: LockId) -> bool
     let owner = state.owner;
     match owner {
         Owner::None => k.word == 0,
-        Owner::Thread(t) => held_ok(m, k, ThreadId(t)),
+        Owner::Thread(t) => held_ok(n, cpus, k, ThreadId(t)),
     }
 }
 
@@ -181,8 +183,11 @@ fn locks_ok(m: Machine) -> bool
 {
     let mut ok = true;
     let mut l: u32 = 0;
+    let cpus = m.cpus;
     while l < LOCKS {
-        ok = ok & lock_ok(m, LockId(l));
+        let at = l as usize;
+        let k = m.locks[at];
+        ok = ok & lock_ok(m.n, cpus, k);
         l += 1;
     }
     ok
@@ -233,21 +238,18 @@ fn holds_ok(m: Machine) -> bool
 }
 
 // A current thread is below 32 and its CPU is active, carries its priority, is its place, and is allowed by its mask.
-fn thread_fits(m: Machine, c: CpuId, t: ThreadId) -> bool
+fn thread_fits(threads: [Thread; 32], c: CpuId, run: Run, t: ThreadId) -> bool
     requires { ⌜ c .0 < cpuSlots ⌝ }
-    ensures { λ r. ⌜ r ≡ currentBy m (c .0) (Current.Thread t) ⌝ }
+    ensures { λ r. ⌜ r ≡ currentBy threads (c .0) run (Current.Thread t) ⌝ }
 {
     if t.0 >= THREADS {
         return false;
     }
-    let at = c.0 as usize;
-    let cpu = m.cpus[at];
-    let run = cpu.run;
     if !run.active {
         return false;
     }
-    let number = t.0 as usize;
-    let thread = m.threads[number];
+    let at = t.0 as usize;
+    let thread = threads[at];
     if !carries(run, thread) {
         return false;
     }
@@ -258,17 +260,15 @@ fn thread_fits(m: Machine, c: CpuId, t: ThreadId) -> bool
     allows(thread.mask, c)
 }
 
-fn current_ok(m: Machine, c: CpuId) -> bool
+fn current_ok(threads: [Thread; 32], c: CpuId, cpu: Cpu) -> bool
     requires { ⌜ c .0 < cpuSlots ⌝ }
-    ensures { λ r. ⌜ r ≡ currentOk m (c .0) ⌝ }
+    ensures { λ r. ⌜ r ≡ currentBy threads (c .0) (cpu .run) (cpu .run .current) ⌝ }
 {
-    let at = c.0 as usize;
-    let cpu = m.cpus[at];
     let run = cpu.run;
     let current = run.current;
     match current {
         Current::None => true,
-        Current::Thread(t) => thread_fits(m, c, t),
+        Current::Thread(t) => thread_fits(threads, c, run, t),
     }
 }
 
@@ -277,25 +277,25 @@ fn currents_ok(m: Machine) -> bool
 {
     let mut ok = true;
     let mut c: u32 = 0;
+    let threads = m.threads;
     while c < CPU_SLOTS {
-        ok = ok & current_ok(m, CpuId(c));
+        let at = c as usize;
+        let cpu = m.cpus[at];
+        ok = ok & current_ok(threads, CpuId(c), cpu);
         c += 1;
     }
     ok
 }
 
 // A placed thread is the current thread of the CPU below n that is its place.
-fn place_ok(m: Machine, t: ThreadId) -> bool
-    requires { ⌜ m .n ≤ cpuSlots ⌝ }
-    requires { ⌜ t .0 < threadCount ⌝ }
-    ensures { λ r. ⌜ r ≡ placeOk m (t .0) ⌝ }
+fn place_ok(n: u32, cpus: [Cpu; 4], t: ThreadId, thread: Thread) -> bool
+    requires { ⌜ n ≤ cpuSlots ⌝ }
+    ensures { λ r. ⌜ r ≡ placeBy n cpus (t .0) (thread .place) ⌝ }
 {
-    let at = t.0 as usize;
-    let thread = m.threads[at];
     let place = thread.place;
     match place {
         Place::Nowhere => true,
-        Place::On(cpu) => if cpu.0 < m.n { runs(m, cpu, t) } else { false },
+        Place::On(cpu) => if cpu.0 < n { runs(cpus, cpu, t) } else { false },
     }
 }
 
@@ -305,20 +305,20 @@ fn places_ok(m: Machine) -> bool
 {
     let mut ok = true;
     let mut t: u32 = 0;
+    let cpus = m.cpus;
     while t < THREADS {
-        ok = ok & place_ok(m, ThreadId(t));
+        let at = t as usize;
+        let thread = m.threads[at];
+        ok = ok & place_ok(m.n, cpus, ThreadId(t), thread);
         t += 1;
     }
     ok
 }
 
 // No current thread means priority 128.
-fn idle_ok(m: Machine, c: CpuId) -> bool
-    requires { ⌜ c .0 < cpuSlots ⌝ }
-    ensures { λ r. ⌜ r ≡ idleOk m (c .0) ⌝ }
+fn idle_ok(cpu: Cpu) -> bool
+    ensures { λ r. ⌜ r ≡ idleBy (cpu .run .priority) (cpu .run .current) ⌝ }
 {
-    let at = c.0 as usize;
-    let cpu = m.cpus[at];
     let run = cpu.run;
     let current = run.current;
     let priority = run.priority;
@@ -334,7 +334,9 @@ fn idles_ok(m: Machine) -> bool
     let mut ok = true;
     let mut c: u32 = 0;
     while c < CPU_SLOTS {
-        ok = ok & idle_ok(m, CpuId(c));
+        let at = c as usize;
+        let cpu = m.cpus[at];
+        ok = ok & idle_ok(cpu);
         c += 1;
     }
     ok
@@ -350,12 +352,9 @@ fn in_range(priority: i32) -> bool
 }
 
 // Thread priorities lie in -128..127.
-fn priority_ok(m: Machine, t: ThreadId) -> bool
-    requires { ⌜ t .0 < threadCount ⌝ }
-    ensures { λ r. ⌜ r ≡ priorityOk m (t .0) ⌝ }
+fn priority_ok(thread: Thread) -> bool
+    ensures { λ r. ⌜ r ≡ inRange (thread .priority) ⌝ }
 {
-    let at = t.0 as usize;
-    let thread = m.threads[at];
     let priority = thread.priority;
     in_range(priority)
 }
@@ -366,22 +365,21 @@ fn priorities_ok(m: Machine) -> bool
     let mut ok = true;
     let mut t: u32 = 0;
     while t < THREADS {
-        ok = ok & priority_ok(m, ThreadId(t));
+        let at = t as usize;
+        let thread = m.threads[at];
+        ok = ok & priority_ok(thread);
         t += 1;
     }
     ok
 }
 
 // Under pin-only each mask has one bit.
-fn mask_ok(m: Machine, t: ThreadId) -> bool
-    requires { ⌜ t .0 < threadCount ⌝ }
-    ensures { λ r. ⌜ r ≡ maskOk m (t .0) ⌝ }
+fn mask_ok(pin_only: bool, thread: Thread) -> bool
+    ensures { λ r. ⌜ r ≡ maskBy «pin_only» thread ⌝ }
 {
-    if !m.pin_only {
+    if !pin_only {
         return true;
     }
-    let at = t.0 as usize;
-    let thread = m.threads[at];
     cpu_mask::validate_pin_mask(thread.mask)
 }
 
@@ -391,7 +389,9 @@ fn masks_ok(m: Machine) -> bool
     let mut ok = true;
     let mut t: u32 = 0;
     while t < THREADS {
-        ok = ok & mask_ok(m, ThreadId(t));
+        let at = t as usize;
+        let thread = m.threads[at];
+        ok = ok & mask_ok(m.pin_only, thread);
         t += 1;
     }
     ok

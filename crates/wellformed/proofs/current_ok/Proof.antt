@@ -3,15 +3,6 @@ use borrow.Author.Needs.{needs}
 use Rattle.wellformed.proofs.current_ok.Statement.{statement}
 use Rattle.wellformed.proofs.current_ok.Tie as tie
 
-cast-at : tie.Need-cast-at
-cast-at c = search needs
-
-mul-cpu : tie.Need-mul-cpu
-mul-cpu c = search needs
-
-element-copy-out-cpu : tie.Need-element-copy-out-cpu
-element-copy-out-cpu c = search needs
-
 enum-told : tie.Need-enum-told
 enum-told c = search needs
 
@@ -22,20 +13,11 @@ thread-fits-requires : tie.Need-thread-fits-requires
 thread-fits-requires c κs = search needs
 
 returns : tie.Need-returns
-returns c = simp (c .enum-told .given .1)
+returns c = search needs
 
 returns-2 : tie.Need-returns-2
 returns-2 c = simp (c .before .before .current .given .1) (c .thread-fits .ensures)
 
 pub current-ok-spec : {M : Type 1} → statement M
 current-ok-spec =
-    tie.close
-    (tie.spec
-    cast-at
-    mul-cpu
-    element-copy-out-cpu
-    enum-told
-    enum-known-current
-    thread-fits-requires
-    returns
-    returns-2)
+    tie.close (tie.spec enum-told enum-known-current thread-fits-requires returns returns-2)

@@ -10,14 +10,23 @@ use Rattle.wellformed.proofs.currents_ok.Statement.{statement}
 use Rattle.wellformed.proofs.currents_ok.Tie as tie
 
 abbrev Inv-loop : tie.InvT-loop
-Inv-loop m ok₀ c₀ ok c = (c ≤ cpuSlots) × (allBelow (currentOk m) c ≡ ok)
+Inv-loop m ok₀ c₀ threads ok c = (c ≤ cpuSlots) × (allBelow (currentOk m) c ≡ ok)
 
 abbrev μ-loop : tie.MeasureT-loop
-μ-loop m ok₀ c₀ ok c = cpuSlots - c
+μ-loop m ok₀ c₀ threads ok c = cpuSlots - c
 
 loop-holds : tie.Need-loop-holds Inv-loop μ-loop
 unfolding allBelow
 loop-holds c = search needs
+
+cast-at : tie.Need-cast-at Inv-loop μ-loop
+cast-at c = search needs
+
+mul-cpu : tie.Need-mul-cpu Inv-loop μ-loop
+mul-cpu c = search needs
+
+element-copy-out-cpu : tie.Need-element-copy-out-cpu Inv-loop μ-loop
+element-copy-out-cpu c = search needs
 
 current-ok-requires : tie.Need-current-ok-requires Inv-loop μ-loop
 current-ok-requires c κs = search needs
@@ -37,4 +46,15 @@ returns c = let all : c .before .loop .c ≡ cpuSlots = omega arith in cc
 pub currents-ok-spec : {M : Type 1} → statement M
 currents-ok-spec =
     tie.close
-    (tie.spec Inv-loop μ-loop loop-holds current-ok-requires add-c loop-less loop-again returns)
+    (tie.spec
+    Inv-loop
+    μ-loop
+    loop-holds
+    cast-at
+    mul-cpu
+    element-copy-out-cpu
+    current-ok-requires
+    add-c
+    loop-less
+    loop-again
+    returns)

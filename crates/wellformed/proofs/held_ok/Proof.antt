@@ -33,14 +33,14 @@ runs-requires c κs = search needs
 
 returns-3 : tie.Need-returns-3
 returns-3 c =
-    let w = c .before .before .before in
+    let w = c .before .before in
     let d = w .before .before .before .before in
     let flag = not-false (d .before .before .before .args .k .state .«irq_saved») (d .if1 .left) in
     simp (flag, ← w .before .before .thread-word .ensures, eq-eqb _ _ (w .if2 .left), lt-ltb _ _ (c .before .if3 .taken)) (c .runs .ensures)
 
 returns-4 : tie.Need-returns-4
 returns-4 c =
-    let w = c .before .before in
+    let w = c .before in
     let d = w .before .before .before .before in
     let flag = not-false (d .before .before .before .args .k .state .«irq_saved») (d .if1 .left) in
     simp (flag, ← w .before .before .thread-word .ensures, eq-eqb _ _ (w .if2 .left), le-ltb _ _ (c .if3 .left))

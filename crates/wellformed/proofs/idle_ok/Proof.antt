@@ -5,19 +5,9 @@ use mir.Syntax.{w32}
 use mir.Val.{SFits}
 use mir.ValLaws.{toZ-ofZ}
 use lib.IntN.{ℤ, pos}
-use Rattle.machine.specs.State.{cpuAt}
 use Rattle.wellformed.specs.WellFormed.{eqZ}
 use Rattle.wellformed.proofs.idle_ok.Statement.{statement}
 use Rattle.wellformed.proofs.idle_ok.Tie as tie
-
-cast-at : tie.Need-cast-at
-cast-at c = search needs
-
-mul-cpu : tie.Need-mul-cpu
-mul-cpu c = search needs
-
-element-copy-out-cpu : tie.Need-element-copy-out-cpu
-element-copy-out-cpu c = search needs
 
 enum-told : tie.Need-enum-told
 enum-told c = search needs
@@ -31,22 +21,12 @@ enum-told-2 c = search needs
 returns : tie.Need-returns
 returns c =
     let d = c .before .before .before in
-    let a = d .before .before .before .before .args in
-    let fits : SFits w32 (cpuAt (a .t1) (a .c .0) .run .priority) = record { sfits = d .struct-told .given .1 .1 .0 .1 } in
+    let a = d .before .before .args in
+    let fits : SFits w32 (a .cpu .run .priority) = record { sfits = d .struct-told .given .1 .1 .0 .1 } in
     simp (c .before .enum-told .given .1) (c .same-priority .ensures ∙ ap (λ (z : ℤ). eqZ z (pos 128)) (toZ-ofZ w32 _ fits))
 
 returns-2 : tie.Need-returns-2
-returns-2 c = simp (c .enum-told2 .given .1)
+returns-2 c = search needs
 
 pub idle-ok-spec : {M : Type 1} → statement M
-idle-ok-spec =
-    tie.close
-    (tie.spec
-    cast-at
-    mul-cpu
-    element-copy-out-cpu
-    enum-told
-    same-priority-requires
-    enum-told-2
-    returns
-    returns-2)
+idle-ok-spec = tie.close (tie.spec enum-told same-priority-requires enum-told-2 returns returns-2)

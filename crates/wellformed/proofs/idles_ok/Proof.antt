@@ -19,6 +19,15 @@ loop-holds : tie.Need-loop-holds Inv-loop μ-loop
 unfolding allBelow
 loop-holds c = search needs
 
+cast-at : tie.Need-cast-at Inv-loop μ-loop
+cast-at c = search needs
+
+mul-cpu : tie.Need-mul-cpu Inv-loop μ-loop
+mul-cpu c = search needs
+
+element-copy-out-cpu : tie.Need-element-copy-out-cpu Inv-loop μ-loop
+element-copy-out-cpu c = search needs
+
 idle-ok-requires : tie.Need-idle-ok-requires Inv-loop μ-loop
 idle-ok-requires c κs = search needs
 
@@ -37,4 +46,15 @@ returns c = let all : c .before .loop .c ≡ cpuSlots = omega arith in cc
 pub idles-ok-spec : {M : Type 1} → statement M
 idles-ok-spec =
     tie.close
-    (tie.spec Inv-loop μ-loop loop-holds idle-ok-requires add-c loop-less loop-again returns)
+    (tie.spec
+    Inv-loop
+    μ-loop
+    loop-holds
+    cast-at
+    mul-cpu
+    element-copy-out-cpu
+    idle-ok-requires
+    add-c
+    loop-less
+    loop-again
+    returns)

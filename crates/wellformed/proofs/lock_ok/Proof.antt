@@ -5,15 +5,6 @@ use mathlib.Core.Path.{sym, _∙_}
 use Rattle.wellformed.proofs.lock_ok.Statement.{statement}
 use Rattle.wellformed.proofs.lock_ok.Tie as tie
 
-cast-at : tie.Need-cast-at
-cast-at c = search needs
-
-mul-k : tie.Need-mul-k
-mul-k c = search needs
-
-element-copy-out-k : tie.Need-element-copy-out-k
-element-copy-out-k c = search needs
-
 valid-requires : tie.Need-valid-requires
 valid-requires c κs = search needs
 
@@ -43,9 +34,6 @@ pub lock-ok-spec : {M : Type 1} → statement M
 lock-ok-spec =
     tie.close
     (tie.spec
-    cast-at
-    mul-k
-    element-copy-out-k
     valid-requires
     returns
     enum-told

@@ -4,15 +4,6 @@ use borrow.Author.Tests.{lt-ltb, le-ltb}
 use Rattle.wellformed.proofs.place_ok.Statement.{statement}
 use Rattle.wellformed.proofs.place_ok.Tie as tie
 
-cast-at : tie.Need-cast-at
-cast-at c = search needs
-
-mul-thread : tie.Need-mul-thread
-mul-thread c = search needs
-
-element-copy-out-thread : tie.Need-element-copy-out-thread
-element-copy-out-thread c = search needs
-
 enum-told : tie.Need-enum-told
 enum-told c = search needs
 
@@ -23,7 +14,7 @@ runs-requires : tie.Need-runs-requires
 runs-requires c κs = search needs
 
 returns : tie.Need-returns
-returns c = simp (c .enum-told .given .1)
+returns c = search needs
 
 returns-2 : tie.Need-returns-2
 returns-2 c = simp (c .before .before .before .before .place .given .1, lt-ltb _ _ (c .before .if1 .taken)) (c .runs .ensures)
@@ -33,14 +24,4 @@ returns-3 c = simp (c .before .before .before .place .given .1, le-ltb _ _ (c .i
 
 pub place-ok-spec : {M : Type 1} → statement M
 place-ok-spec =
-    tie.close
-    (tie.spec
-    cast-at
-    mul-thread
-    element-copy-out-thread
-    enum-told
-    enum-known-place
-    runs-requires
-    returns
-    returns-2
-    returns-3)
+    tie.close (tie.spec enum-told enum-known-place runs-requires returns returns-2 returns-3)

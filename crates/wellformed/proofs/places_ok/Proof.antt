@@ -10,14 +10,23 @@ use Rattle.wellformed.proofs.places_ok.Statement.{statement}
 use Rattle.wellformed.proofs.places_ok.Tie as tie
 
 abbrev Inv-loop : tie.InvT-loop
-Inv-loop m ok₀ t₀ ok t = (t ≤ threadCount) × (allBelow (placeOk m) t ≡ ok)
+Inv-loop m ok₀ t₀ cpus ok t = (t ≤ threadCount) × (allBelow (placeOk m) t ≡ ok)
 
 abbrev μ-loop : tie.MeasureT-loop
-μ-loop m ok₀ t₀ ok t = threadCount - t
+μ-loop m ok₀ t₀ cpus ok t = threadCount - t
 
 loop-holds : tie.Need-loop-holds Inv-loop μ-loop
 unfolding allBelow
 loop-holds c = search needs
+
+cast-at : tie.Need-cast-at Inv-loop μ-loop
+cast-at c = search needs
+
+mul-thread : tie.Need-mul-thread Inv-loop μ-loop
+mul-thread c = search needs
+
+element-copy-out-thread : tie.Need-element-copy-out-thread Inv-loop μ-loop
+element-copy-out-thread c = search needs
 
 place-ok-requires : tie.Need-place-ok-requires Inv-loop μ-loop
 place-ok-requires c κs = search needs
@@ -37,4 +46,15 @@ returns c = let all : c .before .loop .t ≡ threadCount = omega arith in cc
 pub places-ok-spec : {M : Type 1} → statement M
 places-ok-spec =
     tie.close
-    (tie.spec Inv-loop μ-loop loop-holds place-ok-requires add-t loop-less loop-again returns)
+    (tie.spec
+    Inv-loop
+    μ-loop
+    loop-holds
+    cast-at
+    mul-thread
+    element-copy-out-thread
+    place-ok-requires
+    add-t
+    loop-less
+    loop-again
+    returns)

@@ -19,6 +19,15 @@ loop-holds : tie.Need-loop-holds Inv-loop μ-loop
 unfolding allBelow
 loop-holds c = search needs
 
+cast-at : tie.Need-cast-at Inv-loop μ-loop
+cast-at c = search needs
+
+mul-thread : tie.Need-mul-thread Inv-loop μ-loop
+mul-thread c = search needs
+
+element-copy-out-thread : tie.Need-element-copy-out-thread Inv-loop μ-loop
+element-copy-out-thread c = search needs
+
 priority-ok-requires : tie.Need-priority-ok-requires Inv-loop μ-loop
 priority-ok-requires c κs = search needs
 
@@ -37,4 +46,15 @@ returns c = let all : c .before .loop .t ≡ threadCount = omega arith in cc
 pub priorities-ok-spec : {M : Type 1} → statement M
 priorities-ok-spec =
     tie.close
-    (tie.spec Inv-loop μ-loop loop-holds priority-ok-requires add-t loop-less loop-again returns)
+    (tie.spec
+    Inv-loop
+    μ-loop
+    loop-holds
+    cast-at
+    mul-thread
+    element-copy-out-thread
+    priority-ok-requires
+    add-t
+    loop-less
+    loop-again
+    returns)

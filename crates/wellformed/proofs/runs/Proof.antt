@@ -9,8 +9,8 @@ cast-at c = search needs
 mul-cpu : tie.Need-mul-cpu
 mul-cpu c = search needs
 
-element-copy-out-cpu : tie.Need-element-copy-out-cpu
-element-copy-out-cpu c = search needs
+array-copy-out-cpu : tie.Need-array-copy-out-cpu
+array-copy-out-cpu c = search needs
 
 enum-told : tie.Need-enum-told
 enum-told c = search needs
@@ -27,4 +27,4 @@ returns-2 c = simp (c .before .before .before .current .given .1)
 pub runs-spec : {M : Type 1} → statement M
 runs-spec =
     tie.close
-    (tie.spec cast-at mul-cpu element-copy-out-cpu enum-told enum-known-current returns returns-2)
+    (tie.spec cast-at mul-cpu array-copy-out-cpu enum-told enum-known-current returns returns-2)

@@ -1,5 +1,4 @@
 -- Each return is the case that the tests on the way name. Assumes nothing.
-use borrow.Author.Needs.{needs}
 use borrow.Author.Tests.{lt-ltb, le-ltb}
 use Rattle.wellformed.proofs.slot_ok.Statement.{statement}
 use Rattle.wellformed.proofs.slot_ok.Tie as tie
@@ -7,21 +6,11 @@ use Rattle.wellformed.proofs.slot_ok.Tie as tie
 returns : tie.Need-returns
 returns c = simp (lt-ltb _ _ (c .if1 .taken))
 
-cast-at : tie.Need-cast-at
-cast-at c = search needs
-
-mul-cpu : tie.Need-mul-cpu
-mul-cpu c = search needs
-
-element-copy-out-cpu : tie.Need-element-copy-out-cpu
-element-copy-out-cpu c = search needs
-
 returns-2 : tie.Need-returns-2
-returns-2 c = simp (le-ltb _ _ (c .before .before .before .before .if1 .left), c .if2 .taken)
+returns-2 c = simp (le-ltb _ _ (c .before .before .if1 .left), c .if2 .taken)
 
 returns-3 : tie.Need-returns-3
-returns-3 c = simp (le-ltb _ _ (c .before .before .before .before .before .if1 .left), c .before .if2 .left)
+returns-3 c = simp (le-ltb _ _ (c .before .before .before .if1 .left), c .before .if2 .left)
 
 pub slot-ok-spec : {M : Type 1} → statement M
-slot-ok-spec =
-    tie.close (tie.spec returns cast-at mul-cpu element-copy-out-cpu returns-2 returns-3)
+slot-ok-spec = tie.close (tie.spec returns returns-2 returns-3)

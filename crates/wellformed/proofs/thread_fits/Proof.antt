@@ -1,40 +1,28 @@
 -- Each return is the conjunct that the tests on the way name: those before it passed. Assumes nothing.
 use borrow.Author.Needs.{needs}
 use borrow.Author.Tests.{lt-ltb, le-ltb, not-true, not-false}
-use mathlib.Core.Path.{_≡_, sym, _∙_}
-use mathlib.Core.Bool.{true, false}
+use mathlib.Core.Path.{sym, _∙_}
 use Rattle.wellformed.proofs.Tests.{passed, failed}
-use Rattle.machine.specs.State.{cpuAt}
 use Rattle.wellformed.proofs.thread_fits.Statement.{statement}
 use Rattle.wellformed.proofs.thread_fits.Tie as tie
 
 returns : tie.Need-returns
 returns c = failed _ (le-ltb _ _ (c .if1 .taken))
 
-cast-at : tie.Need-cast-at
-cast-at c = search needs
-
-mul-cpu : tie.Need-mul-cpu
-mul-cpu c = search needs
-
-element-copy-out-cpu : tie.Need-element-copy-out-cpu
-element-copy-out-cpu c = search needs
-
 returns-2 : tie.Need-returns-2
 returns-2 c =
-    let d = c .before .before .before .before .before in
-    let a = d .before .before .args in
-    let down : cpuAt (a .t1) (a .c .0) .run .active ≡ false = not-true _ (c .if2 .taken) in
-    passed (lt-ltb _ _ (d .if1 .left)) (failed _ down)
+    let e = c .before .before in
+    let down = not-true (e .before .before .args .run .active) (c .if2 .taken) in
+    passed (lt-ltb _ _ (e .if1 .left)) (failed _ down)
 
-cast-number : tie.Need-cast-number
-cast-number c = search needs
+cast-at : tie.Need-cast-at
+cast-at c = search needs
 
 mul-thread : tie.Need-mul-thread
 mul-thread c = search needs
 
-element-copy-out-thread : tie.Need-element-copy-out-thread
-element-copy-out-thread c = search needs
+array-copy-out-thread : tie.Need-array-copy-out-thread
+array-copy-out-thread c = search needs
 
 carries-requires : tie.Need-carries-requires
 carries-requires c κs = search needs
@@ -42,9 +30,8 @@ carries-requires c κs = search needs
 returns-3 : tie.Need-returns-3
 returns-3 c =
     let d = c .before .before .before .before in
-    let e = d .before .before .before .before .before in
-    let a = e .before .before .args in
-    let active : cpuAt (a .t1) (a .c .0) .run .active ≡ true = not-false _ (d .if2 .left) in
+    let e = d .before .before in
+    let active = not-false (e .before .before .args .run .active) (d .if2 .left) in
     let another = sym (c .before .carries .ensures) ∙ not-true _ (c .if3 .taken) in
     passed (lt-ltb _ _ (e .if1 .left)) (passed active (failed _ another))
 
@@ -54,9 +41,8 @@ is-place-requires c κs = search needs
 returns-4 : tie.Need-returns-4
 returns-4 c =
     let d = c .before .before .before .before .before .before in
-    let e = d .before .before .before .before .before in
-    let a = e .before .before .args in
-    let active : cpuAt (a .t1) (a .c .0) .run .active ≡ true = not-false _ (d .if2 .left) in
+    let e = d .before .before in
+    let active = not-false (e .before .before .args .run .active) (d .if2 .left) in
     let carried = sym (c .before .before .before .carries .ensures) ∙ not-false _ (c .before .before .if3 .left) in
     let elsewhere = sym (c .before .is-place .ensures) ∙ not-true _ (c .if4 .taken) in
     passed (lt-ltb _ _ (e .if1 .left)) (passed active (passed carried (failed _ elsewhere)))
@@ -67,9 +53,8 @@ allows-requires c κs = search needs
 returns-5 : tie.Need-returns-5
 returns-5 c =
     let d = c .before .before .before .before .before .before .before in
-    let e = d .before .before .before .before .before in
-    let a = e .before .before .args in
-    let active : cpuAt (a .t1) (a .c .0) .run .active ≡ true = not-false _ (d .if2 .left) in
+    let e = d .before .before in
+    let active = not-false (e .before .before .args .run .active) (d .if2 .left) in
     let carried = sym (c .before .before .before .before .carries .ensures) ∙ not-false _ (c .before .before .before .if3 .left) in
     let placed = sym (c .before .before .is-place .ensures) ∙ not-false _ (c .before .if4 .left) in
     passed (lt-ltb _ _ (e .if1 .left)) (passed active (passed carried (passed placed (c .allows .ensures))))
@@ -79,13 +64,10 @@ thread-fits-spec =
     tie.close
     (tie.spec
     returns
-    cast-at
-    mul-cpu
-    element-copy-out-cpu
     returns-2
-    cast-number
+    cast-at
     mul-thread
-    element-copy-out-thread
+    array-copy-out-thread
     carries-requires
     returns-3
     is-place-requires
