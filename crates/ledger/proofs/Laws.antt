@@ -1,190 +1,26 @@
--- Demand 3, the ledger. From a fresh machine, after every prefix of every log: each lock's depth and its accepted releases are together its
--- accepted acquires, and each CPU's hold and the accepted releases by it are together the accepted acquires by it. Assumes nothing.
-use mathlib.Core.Path.{_≡_, refl, ap, ap₂, sym, _∙_}
-use mathlib.Core.Logic.{_≢_}
-use mathlib.Core.Bool.{Bool, true, false, _&&_, cond}
-use mathlib.Core.List.{List, [], _∷_}
-use Prim.Native.Nat.{ℕ, zero, suc, _+_, _<_}
+-- Demand 3, the ledger, from any well-formed machine: each record keeps the books, and so does a log, record by record. The answer bytes tell
+-- which records were accepted. Assumes nothing.
+use mathlib.Core.Path.{_≡_, refl, ap, _∙_}
+use mathlib.Core.Bool.{true}
+use mathlib.Core.List.{List}
+use Prim.Native.Nat.{ℕ, zero, suc, _+_, _/_, _≤_, _<_}
 use native.Mathlib.Omega.{arith}
-use native.Mathlib.Decide.{ℕ-discrete}
-use lib.Dec.{ltb}
-use borrow.Author.Tests.{ltb-true, eq-eqb, ne-eqb}
+use lib.ListN.{length}
 use Rattle.error.specs.Codes.{isOK}
 use Rattle.error.specs.Answer.{Answer}
-use Rattle.words.proofs.Choice.{and-left, and-right}
-use Rattle.spinlock.specs.declared.Operation.{Operation}
-use Rattle.order.specs.Outcome.{Outcome, refuse, accept, answerOf}
-use Rattle.order.specs.Cells.{Op, commit, after, reply}
-use Rattle.machine.specs.State.{cpuSlots, lockCount, cpuAt, lockAt}
-use Rattle.machine.specs.declared.Cpu.{Cpu}
-use Rattle.machine.specs.declared.Lock.{Lock}
 use Rattle.machine.specs.declared.Machine.{Machine}
-use Rattle.record.specs.declared.Request.{Request}
-use Rattle.record.specs.Record.{requestOf}
-use Rattle.record.proofs.Range.{inRange, request-in-range}
-use Rattle.rules.specs.Rules as Rules
 use Rattle.wellformed.specs.WellFormed.{wellFormed}
-use Rattle.wellformed.proofs.Facts.{WellFormed, says}
-use Rattle.runner.specs.Cells.{Cell, run, hold, thread, lock, machineStore}
-use Rattle.runner.specs.Operations.{withHold, onLock, operation}
-use Rattle.runner.specs.Step.{asked, answered, next}
-use Rattle.runner.specs.Run.{recordAt, stateAt}
+use Rattle.wellformed.proofs.Facts.{says}
+use Rattle.runner.specs.Cells.{machineStore}
+use Rattle.runner.specs.Step.{asked, next}
+use Rattle.runner.specs.Run.{recordAt, stateAt, answerAt, ran, ranRoom}
 use Rattle.kept.proofs.Lengths.{Lengths}
 use Rattle.kept.proofs.Laws.{states-keep}
-use Rattle.kept.proofs.Stored.{cpu-there, cpu-elsewhere, lock-there, lock-elsewhere}
-use Rattle.rearranged.specs.Clash.{In, here, there}
-use Rattle.rearranged.proofs.Commute.{after-other, after-shape}
+use Rattle.rearranged.proofs.Commute.{after-shape}
 use Rattle.rearranged.proofs.MachineStore.{Shape, shape, machine-laws}
-use Rattle.ledger.specs.Ledger.{Call, acquire, release, other, callOf, Book, ofLock, ofCpu, mine, acquired, released, counted, acquires, releases, balance, InBooks}
-use Rattle.ledger.proofs.Moves.{up, down, Moves, Told, lock-told}
-
--- The cell in which it stands.
-abbrev cellOf : Book → Cell
-cellOf (ofLock l) = lock l
-cellOf (ofCpu c) = hold c
-
--- One record keeps the books.
-abbrev Kept : Machine → Machine → Bool → Call → Type 0
-Kept m then accepted call =
-    (book : Book) → InBooks book → balance then book + counted accepted (released book call) ≡ balance m book + counted accepted (acquired book call)
-
-abbrev doing : Machine → Op machineStore (Answer ℕ) → Machine
-doing m o = after machineStore (Answer ℕ) m o
-
--- An operation that does not write the cell leaves the balance.
-balance-same : (m : Machine) (o : Op machineStore (Answer ℕ)) (book : Book) → ¬ (In (cellOf book) (o .writes)) → balance (doing m o) book ≡ balance m book
-balance-same m o (ofLock l) out =
-    ap {A = Lock} (λ k. k .state .«nest_count») (after-other machineStore (Answer ℕ) Shape shape machine-laws (lock l) o m out)
-balance-same m o (ofCpu c) out = after-other machineStore (Answer ℕ) Shape shape machine-laws (hold c) o m out
-
-counted-none : (accepted : Bool) → counted accepted 0 ≡ 0
-counted-none true = refl
-counted-none false = refl
-
--- No book stands in a run cell or a thread.
-not-run : (book : Book) (c : ℕ) → cellOf book ≢ run c
-not-run (ofLock l) c e = let z : _≡_ {A = ℕ} 0 1 = cc in omega arith
-not-run (ofCpu d) c e = let z : _≡_ {A = ℕ} 0 1 = cc in omega arith
-
-not-thread : (book : Book) (t : ℕ) → cellOf book ≢ thread t
-not-thread (ofLock l) t e = let z : _≡_ {A = ℕ} 0 1 = cc in omega arith
-not-thread (ofCpu d) t e = let z : _≡_ {A = ℕ} 0 1 = cc in omega arith
-
-no-cell : {c : Cell} → In c [] → ⊥
-no-cell i = elim i [ ]
-
-only : {c d : Cell} → c ≢ d → In c (d ∷ []) → ⊥
-only n (here e) = n e
-only n (there i) = no-cell i
-
-neither : {c d e : Cell} → c ≢ d → c ≢ e → In c (d ∷ e ∷ []) → ⊥
-neither n k (here e) = n e
-neither n k (there i) = only k i
-
--- A record that is no call of a lock keeps them.
-aside : (m : Machine) (o : Op machineStore (Answer ℕ)) → ((book : Book) → ¬ (In (cellOf book) (o .writes)))
-    → Kept m (doing m o) (isOK (reply machineStore (Answer ℕ) m o .code)) other
-aside m o out book b = ap (λ n. n + counted (isOK (reply machineStore (Answer ℕ) m o .code)) 0) (balance-same m o book (out book))
-
--- The call of a lock that an operation is.
-abbrev called : Operation → ℕ → ℕ → Call
-called Operation.Acquire c k = acquire c k
-called Operation.Nested c k = acquire c k
-called Operation.Release c k = release c k
-
-acquired-is : (op : Operation) (book : Book) (c k : ℕ) (b : Bool) → mine book c k ≡ b → acquired book (called op c k) ≡ cond b (up op) 0
-acquired-is Operation.Acquire book c k b e = rw e
-acquired-is Operation.Nested book c k b e = rw e
-acquired-is Operation.Release book c k b e = sym (counted-none b)
-
-released-is : (op : Operation) (book : Book) (c k : ℕ) (b : Bool) → mine book c k ≡ b → released book (called op c k) ≡ cond b (down op) 0
-released-is Operation.Acquire book c k b e = sym (counted-none b)
-released-is Operation.Nested book c k b e = sym (counted-none b)
-released-is Operation.Release book c k b e = rw e
-
--- A call of lock k by CPU c keeps the books.
-module _ (m : Machine) (s : Lengths m) (op : Operation) (c k : ℕ) (hc : c < cpuSlots) (hk : k < lockCount) where
-  abbrev stored : Outcome (Answer ℕ) Lock → Machine
-  stored o = commit machineStore (Answer ℕ) (lock k ∷ hold c ∷ []) (withHold op (cpuAt m c .hold) o) m
-
-  abbrev Balanced : Book → Lock → Answer ℕ → Type 0
-  Balanced book v a = balance (stored (accept a v)) book + released book (called op c k) ≡ balance m book + acquired book (called op c k)
-
-  lock-balanced : (l : ℕ) (v : Lock) (a : Answer ℕ) → Moves m op c k v → Balanced (ofLock l) v a
-  lock-balanced l v a moves = go (ℕ-discrete l k)
-    where
-      go : Dec (l ≡ k) → Balanced (ofLock l) v a
-      go (yes e) =
-          let now : balance (stored (accept a v)) (ofLock k) ≡ v .state .«nest_count» = ap (λ (x : Lock). x .state .«nest_count») (lock-there m s k v hk) in
-          let less : released (ofLock k) (called op c k) ≡ down op = released-is op (ofLock k) c k true (eq-eqb k k refl) in
-          let more : acquired (ofLock k) (called op c k) ≡ up op = acquired-is op (ofLock k) c k true (eq-eqb k k refl) in
-          rw e (ap₂ _+_ now less ∙ moves .depth ∙ ap (λ n. balance m (ofLock k) + n) (sym more))
-      go (no differs) =
-          let now : balance (stored (accept a v)) (ofLock l) ≡ balance m (ofLock l) = ap (λ (x : Lock). x .state .«nest_count») (lock-elsewhere m k v l differs) in
-          let less : released (ofLock l) (called op c k) ≡ 0 = released-is op (ofLock l) c k false (ne-eqb k l (λ e. differs (sym e))) in
-          let more : acquired (ofLock l) (called op c k) ≡ 0 = acquired-is op (ofLock l) c k false (ne-eqb k l (λ e. differs (sym e))) in
-          ap₂ _+_ now (less ∙ sym more)
-
-  hold-balanced : (d : ℕ) (v : Lock) (a : Answer ℕ) → Moves m op c k v → Balanced (ofCpu d) v a
-  hold-balanced d v a moves = go (ℕ-discrete d c)
-    where
-      go : Dec (d ≡ c) → Balanced (ofCpu d) v a
-      go (yes e) =
-          let now : balance (stored (accept a v)) (ofCpu c) ≡ Rules.moved op (cpuAt m c .hold) = ap (λ (x : Cpu). x .hold) (cpu-there m s c _ hc) in
-          let less : released (ofCpu c) (called op c k) ≡ down op = released-is op (ofCpu c) c k true (eq-eqb c c refl) in
-          let more : acquired (ofCpu c) (called op c k) ≡ up op = acquired-is op (ofCpu c) c k true (eq-eqb c c refl) in
-          rw e (ap₂ _+_ now less ∙ moves .hold ∙ ap (λ n. balance m (ofCpu c) + n) (sym more))
-      go (no differs) =
-          let now : balance (stored (accept a v)) (ofCpu d) ≡ balance m (ofCpu d) = ap (λ (x : Cpu). x .hold) (cpu-elsewhere m c _ d differs) in
-          let less : released (ofCpu d) (called op c k) ≡ 0 = released-is op (ofCpu d) c k false (ne-eqb c d (λ e. differs (sym e))) in
-          let more : acquired (ofCpu d) (called op c k) ≡ 0 = acquired-is op (ofCpu d) c k false (ne-eqb c d (λ e. differs (sym e))) in
-          ap₂ _+_ now (less ∙ sym more)
-
-  balanced : (book : Book) (v : Lock) (a : Answer ℕ) → Moves m op c k v → Balanced book v a
-  balanced (ofLock l) v a moves = lock-balanced l v a moves
-  balanced (ofCpu d) v a moves = hold-balanced d v a moves
-
-  call-kept : (o : Outcome (Answer ℕ) Lock) → Told (Moves m op c k) o
-      → Kept m (stored o) (isOK (answerOf (withHold op (cpuAt m c .hold) o) .code)) (called op c k)
-  call-kept (refuse a) no-ok book b = rw no-ok
-  call-kept (accept a v) told book b = rw (told .0) (balanced book v a (told .1))
-
--- Every request in range keeps the books.
-module _ (m : Machine) (s : Lengths m) (w : WellFormed m) where
-  abbrev Books : Request → Type 0
-  Books r =
-      Kept m (doing m (operation (m .n) (m .«pin_only») r))
-      (isOK (reply machineStore (Answer ℕ) m (operation (m .n) (m .«pin_only») r) .code)) (callOf r)
-
-  lock-books : (op : Operation) (c k : ℕ) → ltb c (m .n) && ltb k lockCount ≡ true
-      → Kept m (doing m (onLock op c k)) (isOK (reply machineStore (Answer ℕ) m (onLock op c k) .code)) (called op c k)
-  lock-books op c k e =
-      let hc = ltb-true c (m .n) (and-left (ltb c (m .n)) _ e) in
-      let hk = ltb-true k lockCount (and-right (ltb c (m .n)) _ e) in
-      let few = w .few in
-      call-kept m s op c k (omega arith) hk (Rules.lockOp op c (cpuAt m c .run) (lockAt m k)) (lock-told m w c k hc hk op)
-
-  books : (r : Request) → inRange (m .n) r ≡ true → Books r
-  books Request.Malformed e = aside m (operation (m .n) (m .«pin_only») Request.Malformed) (λ book. no-cell)
-  books (Request.Up c) e = aside m (operation (m .n) (m .«pin_only») (Request.Up c)) (λ book. only (not-run book (c .0)))
-  books (Request.Down c) e = aside m (operation (m .n) (m .«pin_only») (Request.Down c)) (λ book. only (not-run book (c .0)))
-  books (Request.Put c t) e =
-      aside m (operation (m .n) (m .«pin_only») (Request.Put c t)) (λ book. neither (not-run book (c .0)) (not-thread book (t .0)))
-  books (Request.Take c t) e =
-      aside m (operation (m .n) (m .«pin_only») (Request.Take c t)) (λ book. neither (not-run book (c .0)) (not-thread book (t .0)))
-  books (Request.Acquire c l) e = lock-books Operation.Acquire (c .0) (l .0) e
-  books (Request.Nested c l) e = lock-books Operation.Nested (c .0) (l .0) e
-  books (Request.Release c l) e = lock-books Operation.Release (c .0) (l .0) e
-  books (Request.Mask t enable disable) e =
-      aside m (operation (m .n) (m .«pin_only») (Request.Mask t enable disable)) (λ book. only (not-thread book (t .0)))
-  books (Request.Pin t c) e = aside m (operation (m .n) (m .«pin_only») (Request.Pin t c)) (λ book. only (not-thread book (t .0)))
-  books (Request.Priority t a) e = aside m (operation (m .n) (m .«pin_only») (Request.Priority t a)) (λ book. only (not-thread book (t .0)))
-  books (Request.Ipi c t) e = aside m (operation (m .n) (m .«pin_only») (Request.Ipi c t)) (λ book. no-cell)
-  books (Request.Owner l) e = aside m (operation (m .n) (m .«pin_only») (Request.Owner l)) (λ book. no-cell)
-
-  pub record-books : (bytes : List ℕ) → Kept m (next m bytes) (isOK (answered m bytes .code)) (callOf (requestOf (m .n) bytes))
-  unfolding next answered
-  record-books bytes = books (requestOf (m .n) bytes) (request-in-range (m .n) bytes)
+use Rattle.ledger.specs.Ledger.{Book, acceptedAt, acquires, releases, balance, InBooks}
+use Rattle.ledger.proofs.Answers.{bytes-tell}
+use Rattle.ledger.proofs.Records.{record-books}
 
 -- The number of CPUs stays.
 states-n : (m : Machine) (log : List ℕ) (k : ℕ) → stateAt m log k .n ≡ m .n
@@ -194,14 +30,29 @@ states-n m log (suc k) =
     ap (λ x. x .n) (after-shape machineStore (Answer ℕ) Shape shape machine-laws (asked (stateAt m log k) (recordAt log k)) (stateAt m log k))
     ∙ states-n m log k
 
--- From any well-formed machine, after every prefix.
-pub ledger-from : (m : Machine) → Lengths m → wellFormed m ≡ true → (log : List ℕ) (k : ℕ) (book : Book) → InBooks book
-    → balance (stateAt m log k) book + releases book m log k ≡ balance m book + acquires book m log k
+-- The answer bytes tell which of the first `count` records were accepted.
+abbrev pub Tell : Machine → List ℕ → List ℕ → ℕ → Type 0
+Tell m log answers count = (k : ℕ) → k < count → acceptedAt answers k ≡ isOK (answerAt m log k .code)
+
+-- Where they do, the books are kept from record to record. This is so of a log of any length, also of one that is too long to run.
+pub records-books : (m : Machine) → Lengths m → wellFormed m ≡ true → (log answers : List ℕ) (count : ℕ) → Tell m log answers count
+    → (k : ℕ) → k ≤ count → (book : Book) → InBooks book
+    → balance (stateAt m log k) book + releases book (m .n) log answers k ≡ balance m book + acquires book (m .n) log answers k
 unfolding stateAt acquires releases
-ledger-from m s good log zero book b = refl
-ledger-from m s good log (suc k) book b =
-    let before : balance (stateAt m log k) book + releases book m log k ≡ balance m book + acquires book m log k = ledger-from m s good log k book b in
+records-books m s good log answers count tell zero h book b = refl
+records-books m s good log answers count tell (suc k) h book b =
+    let before : balance (stateAt m log k) book + releases book (m .n) log answers k ≡ balance m book + acquires book (m .n) log answers k =
+    records-books m s good log answers count tell k (omega arith) book b in
     let kept = states-keep m s log k good in
     let one = record-books (stateAt m log k) (kept .0) (says (stateAt m log k) (kept .1)) (recordAt log k) book b in
-    let here = rw (states-n m log k) at one in
+    let here = rw (states-n m log k, ← tell k (omega arith)) at one in
     omega (arith, before, here)
+
+-- From any well-formed machine that runs a log, after every prefix: what a book has then and its accepted releases are together what it had at
+-- the start and its accepted acquires.
+pub ledger-from : (m : Machine) → Lengths m → wellFormed m ≡ true → (log room : List ℕ) → isOK (ran m log (length room) .code) ≡ true
+    → (k : ℕ) → k ≤ length log / 12 → (book : Book) → InBooks book
+    → balance (stateAt m log k) book + releases book (m .n) log (ranRoom m log room) k
+    ≡ balance m book + acquires book (m .n) log (ranRoom m log room) k
+ledger-from m s good log room ok k h book b =
+    records-books m s good log (ranRoom m log room) (length log / 12) (bytes-tell m log room ok) k h book b

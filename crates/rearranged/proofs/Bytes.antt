@@ -41,7 +41,8 @@ refused-room : (m : Machine) (log room : List ℕ) → isOK (ran m log (length r
 unfolding ran ranRoom
 refused-room m log room e = rw e
 
-place-of-run : (m : Machine) (log room : List ℕ) → isOK (ran m log (length room) .code) ≡ true → (k : ℕ) → k < length log / 12
+-- A run writes each record's answer into its place.
+pub place-of-run : (m : Machine) (log room : List ℕ) → isOK (ran m log (length room) .code) ≡ true → (k : ℕ) → k < length log / 12
     → place (ranRoom m log room) k ≡ answerBytes (answerAt m log k .code) (answerAt m log k .value)
 unfolding ran
 place-of-run m log room e k h =

@@ -26,13 +26,15 @@ use Rattle.record.specs.declared.Fields.{Fields}
 use Rattle.record.specs.declared.Operation.{Operation}
 use Rattle.record.specs.declared.Request.{Request}
 
+-- An answer's bytes give its code back, whatever its value.
+pub code-back : (code : ℤ) (value : ℕ) → SignedFits 31 code → decodeAnswer (answerBytes code value) .code ≡ code
+unfolding decodeAnswer answerBytes
+code-back code value h = ap (toSigned 31) (high-first-back 4 (fromSigned 31 code) (from-signed-lt 31 code h)) ∙ to-from-signed 31 code h
+
 -- An answer's bytes give its code and its value back.
 pub answer-back : (code : ℤ) (value : ℕ) → SignedFits 31 code → value < 2 ^ 32 → decodeAnswer (answerBytes code value) ≡ answer code value
 unfolding decodeAnswer answerBytes
-answer-back code value h k =
-    ap₂ (λ (c : ℤ) (v : ℕ). answer c v)
-    (ap (toSigned 31) (high-first-back 4 (fromSigned 31 code) (from-signed-lt 31 code h)) ∙ to-from-signed 31 code h)
-    (high-first-back 4 value k)
+answer-back code value h k = ap₂ (λ (c : ℤ) (v : ℕ). answer c v) (code-back code value h) (high-first-back 4 value k)
 
 -- The numbers of a request are in range, for a machine of n CPUs.
 abbrev pub InRange : ℕ → Request → Type 0
