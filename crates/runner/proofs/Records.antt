@@ -12,40 +12,56 @@ use lib.Dec.{leb}
 use borrow.Author.Tests.{lt-ltb, le-ltb, eq-eqb, ne-eqb, leb-true}
 use Rattle.error.specs.Codes.{OK, ENOMEM, EINVAL, EOVERFLOW, numberOf}
 use Rattle.error.specs.Answer.{Answer, answer}
+use Rattle.order.specs.Cells.{after, reply}
 use Rattle.machine.specs.State.{cpuAt, threadAt, lockAt}
 use Rattle.machine.specs.declared.Machine.{Machine}
 use Rattle.record.specs.Record.{requestOf}
 use Rattle.record.specs.Answer.{answerBytes, written}
 use Rattle.record.specs.declared.Request.{Request}
-use Rattle.record.proofs.Range.{request-in-range}
+use Rattle.record.proofs.Range.{inRange, request-in-range}
 use Rattle.words.proofs.Choice.{and-left, and-right}
 use Rattle.wellformed.specs.WellFormed.{sizeOk, wellFormed}
-use Rattle.runner.specs.Touch.{touchedSays, touched, cpuIndex, threadIndex, lockIndex}
+use Rattle.touch.specs.Touch.{namesLock, lockTouchedSays, lockTouch, seatTouchedSays, seatTouch, cpuIndex, threadIndex, lockIndex}
+use Rattle.runner.specs.Cells.{machineStore}
+use Rattle.runner.specs.Operations.{operation}
 use Rattle.runner.specs.Step.{answered, next}
 use Rattle.runner.specs.Run.{recordAt, stateAt, answerAt, writtenAt, roomAt, runCode, onOK, ran, ranRoom}
-use Rattle.runner.specs.declared.Touched.{Touched}
-use Rattle.runner.proofs.Turns.{stored, touchOf, turn}
+use Rattle.touch.specs.declared.LockTouched.{LockTouched}
+use Rattle.touch.specs.declared.SeatTouched.{SeatTouched}
+use Rattle.runner.proofs.Turns.{storedLock, storedSeat, lockTouchOf, seatTouchOf, lock-turn, seat-turn}
 
--- What the code computes for one record is the answer, and what it stores is the machine after it.
-module _ (m : Machine) (bytes : List ℕ) (few : m .n ≤ 4) (o : Touched) where
-  abbrev Becomes : Request → ℕ → ℕ → ℕ → Type 0
-  Becomes r c t l =
-      touchedSays o ≡ touched (m .n) (m .«pin_only») r (m .cpus) (cpuAt m c) (threadAt m t) (lockAt m l)
-      → (answer (numberOf (o .code)) (o .value) ≡ answered m bytes) × (stored m c t l (o .cpu, (o .thread, o .lock)) ≡ next m bytes)
+-- What the code computes for one record is the answer, and what it stores is the machine after it: for a request on a lock, and for another.
+module _ (m : Machine) (bytes : List ℕ) (few : m .n ≤ 4) where
+  abbrev Becomes : Answer ℕ → Machine → Type 0
+  Becomes a later = (a ≡ answered m bytes) × (later ≡ next m bytes)
 
-  at-request : Becomes (requestOf (m .n) bytes) (cpuIndex (requestOf (m .n) bytes)) (threadIndex (requestOf (m .n) bytes)) (lockIndex (requestOf (m .n) bytes))
-  unfolding answered next
-  at-request e =
-      let r = requestOf (m .n) bytes in
-      let t = turn m few r (request-in-range (m .n) bytes) in
-      (ap (λ x. x .0) e ∙ t .0, ap (λ x. stored m (cpuIndex r) (threadIndex r) (lockIndex r) (x .1)) e ∙ t .1)
+  module _ (r : Request) (asks : r ≡ requestOf (m .n) bytes) where
+    in-range : inRange (m .n) r ≡ true
+    in-range = ap (inRange (m .n)) asks ∙ request-in-range (m .n) bytes
 
-  pub turned : (r : Request) (c t l : ℕ) → r ≡ requestOf (m .n) bytes → c ≡ cpuIndex r → t ≡ threadIndex r → l ≡ lockIndex r → Becomes r c t l
-  turned r c t l er ec et el =
-      subst (λ x. Becomes x c t l) (sym er)
-      (subst (λ x. Becomes (requestOf (m .n) bytes) x t l) (sym (ec ∙ ap cpuIndex er))
-      (subst (λ x. Becomes (requestOf (m .n) bytes) (cpuIndex (requestOf (m .n) bytes)) x l) (sym (et ∙ ap threadIndex er))
-      (subst (λ x. Becomes (requestOf (m .n) bytes) (cpuIndex (requestOf (m .n) bytes)) (threadIndex (requestOf (m .n) bytes)) x) (sym (el ∙ ap lockIndex er)) at-request)))
+    pub turned-lock : (o : LockTouched) (c l : ℕ) → namesLock r ≡ true → c ≡ cpuIndex r → l ≡ lockIndex r
+        → lockTouchedSays o ≡ lockTouch r (cpuAt m c) (lockAt m l)
+        → Becomes (answer (numberOf (o .code)) (o .value)) (storedLock m c l (o .cpu, o .lock))
+    unfolding answered next
+    turned-lock o c l named ec el e =
+        let t = lock-turn m few r in-range named in
+        let now : lockTouchedSays o ≡ lockTouchOf m r = e ∙ ap₂ (λ (x y : ℕ). lockTouch r (cpuAt m x) (lockAt m y)) ec el in (
+          ap (λ x. x .0) now ∙ t .0 ∙ ap (λ x. reply machineStore (Answer ℕ) m (operation (m .n) (m .«pin_only») x)) asks,
+          ap₂ (λ (x y : ℕ). storedLock m x y (o .cpu, o .lock)) ec el ∙ ap (λ x. storedLock m (cpuIndex r) (lockIndex r) (x .1)) now ∙ t .1
+              ∙ ap (λ x. after machineStore (Answer ℕ) m (operation (m .n) (m .«pin_only») x)) asks,
+        )
+
+    pub turned-seat : (o : SeatTouched) (c t : ℕ) → namesLock r ≡ false → c ≡ cpuIndex r → t ≡ threadIndex r
+        → seatTouchedSays o ≡ seatTouch (m .n) (m .«pin_only») r (m .cpus) (cpuAt m c) (threadAt m t)
+        → Becomes (answer (numberOf (o .code)) (o .value)) (storedSeat m c t (o .cpu, o .thread))
+    unfolding answered next
+    turned-seat o c t unnamed ec et e =
+        let u = seat-turn m few r in-range unnamed in
+        let now : seatTouchedSays o ≡ seatTouchOf m r = e ∙ ap₂ (λ (x y : ℕ). seatTouch (m .n) (m .«pin_only») r (m .cpus) (cpuAt m x) (threadAt m y)) ec et in (
+          ap (λ x. x .0) now ∙ u .0 ∙ ap (λ x. reply machineStore (Answer ℕ) m (operation (m .n) (m .«pin_only») x)) asks,
+          ap₂ (λ (x y : ℕ). storedSeat m x y (o .cpu, o .thread)) ec et ∙ ap (λ x. storedSeat m (cpuIndex r) (threadIndex r) (x .1)) now ∙ u .1
+              ∙ ap (λ x. after machineStore (Answer ℕ) m (operation (m .n) (m .«pin_only») x)) asks,
+        )
 
 -- The part of a log that is lent for record i is that record.
 pub lent-record : (log : List ℕ) (i : ℕ) → take (i * 12 + 12 - i * 12) (drop (i * 12) log) ≡ recordAt log i

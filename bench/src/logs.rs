@@ -1,0 +1,93 @@
+//! Logs for the benchmark, from a generator with a fixed seed.
+
+use crate::baseline::{Machine, OK, RECORD_BYTES};
+
+pub const RECORDS: usize = 2_048;
+
+/// Four CPUs, no pin-only.
+pub const SETUP: u8 = 0x40;
+
+pub const OPERATIONS: [&str; 12] =
+    ["up", "down", "put", "take", "acquire", "nested", "release", "mask", "pin", "priority", "ipi", "owner"];
+
+/// How often each operation is drawn, so that each is accepted often.
+const SHARES: [u64; 12] = [6, 4, 40, 60, 3, 3, 30, 1, 1, 1, 1, 1];
+
+const CPUS: u64 = 4;
+/// Fewer threads and locks than a machine has, so that records meet each other's.
+const THREADS: u64 = 8;
+const LOCKS: u64 = 16;
+/// How many records are drawn to find one that is accepted. Some stay refused, as on a controller.
+const DRAWS: usize = 24;
+
+/// Marsaglia's xorshift, 64 bits.
+pub struct Random(u64);
+
+impl Random {
+    pub fn new(seed: u64) -> Random {
+        Random(seed.wrapping_mul(0x9e37_79b9_7f4a_7c15) | 1)
+    }
+
+    fn below(&mut self, limit: u64) -> u64 {
+        self.0 ^= self.0 << 13;
+        self.0 ^= self.0 >> 7;
+        self.0 ^= self.0 << 17;
+        (self.0 >> 11) % limit
+    }
+
+    fn operation(&mut self) -> usize {
+        let mut left = self.below(SHARES.iter().sum());
+        SHARES.iter().position(|&share| if left < share { true } else { left -= share; false }).expect("the shares add up")
+    }
+}
+
+/// A record of an operation, with its used fields in range.
+fn record(operation: usize, random: &mut Random) -> [u8; RECORD_BYTES] {
+    let (cpu, thread, lock) = (random.below(CPUS) as u8, random.below(THREADS) as u8, random.below(LOCKS) as u8);
+    let (cpu, thread, lock) = match OPERATIONS[operation] {
+        "up" | "down" => (cpu, 0, 0),
+        "put" | "take" | "pin" | "ipi" => (cpu, thread, 0),
+        "acquire" | "nested" | "release" => (cpu, 0, lock),
+        "mask" | "priority" => (0, thread, 0),
+        _ => (0, 0, lock),
+    };
+    let (a, b) = match OPERATIONS[operation] {
+        // Enables the four CPUs, so that a thread that was pinned can be put elsewhere again.
+        "mask" => (15, random.below(1 << 28) as u32 * 16),
+        "priority" => ((random.below(256) as i32 - 128) as u32, 0),
+        _ => (0, 0),
+    };
+    let mut bytes = [0; RECORD_BYTES];
+    bytes[..4].copy_from_slice(&[(operation as u8) << 4 | cpu, thread, lock, 0]);
+    bytes[4..8].copy_from_slice(&a.to_be_bytes());
+    bytes[8..].copy_from_slice(&b.to_be_bytes());
+    bytes
+}
+
+/// A log of the longest size from a fresh machine. `operation` draws the next one.
+fn log_of(random: &mut Random, mut operation: impl FnMut(&mut Random) -> usize) -> Vec<u8> {
+    let mut machine = Machine::fresh(SETUP).expect("the setup byte is good");
+    let mut bytes = Vec::with_capacity(RECORDS * RECORD_BYTES);
+    for _ in 0..RECORDS {
+        let mut next = record(operation(random), random);
+        for _ in 1..DRAWS {
+            if machine.clone().step(&next).0 == OK {
+                break;
+            }
+            next = record(operation(random), random);
+        }
+        machine.step(&next);
+        bytes.extend(next);
+    }
+    bytes
+}
+
+/// Every operation in turn, at random.
+pub fn mixed(random: &mut Random) -> Vec<u8> {
+    log_of(random, Random::operation)
+}
+
+/// One operation only.
+pub fn only(operation: usize, random: &mut Random) -> Vec<u8> {
+    log_of(random, |_| operation)
+}

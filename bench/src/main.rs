@@ -1,0 +1,91 @@
+//! Times the exported runner against the same rules written for speed in Rust, in one process, and first compares their bytes.
+
+mod baseline;
+mod logs;
+
+use std::hint::black_box;
+use std::time::Instant;
+
+use baseline::{ANSWER_BYTES, OK, RECORD_BYTES};
+use logs::{OPERATIONS, RECORDS, Random, SETUP};
+
+type Run = unsafe extern "C" fn(u8, *const u8, usize, *mut u8, usize) -> i32;
+
+unsafe extern "C" {
+    fn hubcrackle_run(setup: u8, log: *const u8, log_len: usize, out: *mut u8, out_len: usize) -> i32;
+}
+
+/// The proved runner, and the baseline.
+const RUNS: [Run; 2] = [hubcrackle_run, baseline::run];
+
+const SEED: u64 = 1;
+const LOGS: usize = 32;
+const ROUNDS: usize = 300;
+/// What is written over the room before a run, and must stay past the last answer.
+const FILL: u8 = 0x55;
+const PAST: usize = 5;
+const GOAL: f64 = 1.5;
+
+fn run(call: Run, log: &[u8], out: &mut [u8]) -> i32 {
+    // SAFETY: both calls take two slices with their lengths.
+    unsafe { call(SETUP, log.as_ptr(), log.len(), out.as_mut_ptr(), out.len()) }
+}
+
+/// Runs each log both ways, ends the process where a byte differs, and counts the accepted records of each operation, and all of them.
+fn compare(logs: &[Vec<u8>]) -> [(usize, usize); 12] {
+    let mut counts = [(0, 0); 12];
+    for log in logs {
+        let [ours, theirs] = RUNS.map(|call| {
+            let mut out = vec![FILL; log.len() / RECORD_BYTES * ANSWER_BYTES + PAST];
+            assert_eq!(run(call, log, &mut out), OK, "a log was refused");
+            out
+        });
+        assert_eq!(ours, theirs, "the answers of a log differ");
+        for (record, answer) in log.chunks_exact(RECORD_BYTES).zip(ours.chunks_exact(ANSWER_BYTES)) {
+            let count = &mut counts[usize::from(record[0] >> 4)];
+            count.0 += usize::from(answer[..4] == OK.to_be_bytes());
+            count.1 += 1;
+        }
+    }
+    counts
+}
+
+/// The time of one run in ns, the best of many rounds over the logs, for each of the two.
+fn times(logs: &[Vec<u8>]) -> [f64; 2] {
+    let mut out = vec![FILL; RECORDS * ANSWER_BYTES];
+    let mut best = [f64::MAX; 2];
+    for _ in 0..ROUNDS {
+        for (best, call) in best.iter_mut().zip(RUNS) {
+            let start = Instant::now();
+            for log in logs {
+                black_box(run(black_box(call), black_box(log), black_box(&mut out)));
+            }
+            *best = best.min(start.elapsed().as_secs_f64() * 1e9 / logs.len() as f64);
+        }
+    }
+    best
+}
+
+fn row(name: &str, accepted: String, [ours, theirs]: [f64; 2], count: usize) {
+    let (ours, theirs) = (ours / count as f64, theirs / count as f64);
+    println!("{name:<12} {accepted:>14} {ours:>10.2} {theirs:>10.2} {:>7.2}", ours / theirs);
+}
+
+fn main() {
+    let mut random = Random::new(SEED);
+    let mixed: Vec<_> = (0..LOGS).map(|_| logs::mixed(&mut random)).collect();
+    let counts = compare(&mixed);
+    println!("{LOGS} logs of {RECORDS} records, best of {ROUNDS} rounds; ns a record, the last line ns a run");
+    println!("{:<12} {:>14} {:>10} {:>10} {:>7}", "records", "accepted", "proved", "baseline", "ratio");
+    for (operation, (name, (accepted, all))) in OPERATIONS.iter().zip(counts).enumerate() {
+        assert!(accepted > 0, "{name} is never accepted: the logs do not keep it busy");
+        let only: Vec<_> = (0..LOGS).map(|_| logs::only(operation, &mut random)).collect();
+        compare(&only);
+        row(&format!("{name} only"), format!("{accepted}/{all}"), times(&only), RECORDS);
+    }
+    let whole = times(&mixed);
+    row("mixed", String::new(), whole, RECORDS);
+    row("empty log", String::new(), times(&vec![Vec::new(); LOGS]), 1);
+    let ratio = whole[0] / whole[1];
+    println!("mixed: {ratio:.2} times the baseline; the goal is at most {GOAL}{}", if ratio <= GOAL { "" } else { ": NOT MET" });
+}

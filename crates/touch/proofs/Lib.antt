@@ -1,0 +1,2 @@
+pub mod LastArm
+pub mod OneResult

@@ -1,0 +1,318 @@
+// A request on the cells that are loaded for it: a CPU with a lock, or a CPU with a thread, and where they are loaded from.
+//
+// New here. Document 01, "Log records". No request is for both a lock and a thread, so a record costs two cells and no more. A caller can rely on
+// these: what a request does not name comes back as it was, and every index is within its array.
+ghost use mathlib.Core.Path.{_≡_};
+ghost use Prim.Native.Nat.{_<_};
+ghost use Rattle.error.specs.Codes.{EINVAL};
+ghost use Rattle.error.specs.Answer.{answer};
+ghost use Rattle.rules.specs.Rules.{runSays, seatSays, threadSays, lockSays, valueSays};
+ghost use Rattle.touch.specs.Touch.{
+  namesLock,
+  lockTouchedSays,
+  touchLock,
+  leaveLock,
+  lockTouch,
+  seatTouchedSays,
+  touchRun,
+  touchSeat,
+  touchThread,
+  leaveSeat,
+  ipiOf,
+  seatTouch,
+  cpuIndex,
+  threadIndex,
+  lockIndex,
+  within as Touch·within,
+};
+use error::Code;
+use machine::Cpu;
+use machine::CpuId;
+use machine::Lock;
+use machine::Thread;
+use record::Request;
+use rules::LockOut;
+use rules::RunOut;
+use rules::SeatOut;
+use rules::ThreadOut;
+use rules::ValueOut;
+use spinlock::Operation;
+
+// What a record came to: its code and value, with the CPU and the thread that were loaded for it.
+pub struct SeatTouched {
+    pub code: Code,
+    pub value: u32,
+    pub cpu: Cpu,
+    pub thread: Thread,
+}
+
+// What a record on a lock came to: its code and value, with the CPU and the lock that were loaded for it.
+pub struct LockTouched {
+    pub code: Code,
+    pub value: u32,
+    pub cpu: Cpu,
+    pub lock: Lock,
+}
+
+// Whether a request is for a lock. No request is for both a lock and a thread.
+pub fn names_lock(request: Request) -> bool
+    ensures { λ r. ⌜ r ≡ namesLock request ⌝ }
+{
+    match request {
+        Request::Malformed => false,
+        Request::Up(_) => false,
+        Request::Down(_) => false,
+        Request::Put(_, _) => false,
+        Request::Take(_, _) => false,
+        Request::Acquire(_, _) => true,
+        Request::Nested(_, _) => true,
+        Request::Release(_, _) => true,
+        Request::Mask {
+            thread: _,
+            enable: _,
+            disable: _,
+        } => false,
+        Request::Pin(_, _) => false,
+        Request::Priority(_, _) => false,
+        Request::Ipi(_, _) => false,
+        Request::Owner(_) => true,
+    }
+}
+
+fn touch_lock(o: LockOut, cpu: Cpu) -> LockTouched
+    ensures { λ r. ⌜ lockTouchedSays r ≡ touchLock (lockSays o) (o .hold) cpu ⌝ }
+{
+    let code = o.code;
+    let lock = o.lock;
+    let run = cpu.run;
+    LockTouched {
+        code,
+        value: o.value,
+        cpu: Cpu { run, hold: o.hold },
+        lock,
+    }
+}
+
+fn leave_lock(o: ValueOut, cpu: Cpu, lock: Lock) -> LockTouched
+    ensures { λ r. ⌜ lockTouchedSays r ≡ leaveLock (valueSays o) cpu lock ⌝ }
+{
+    let code = o.code;
+    LockTouched {
+        code,
+        value: o.value,
+        cpu,
+        lock,
+    }
+}
+
+// The CPU and the lock after a request for a lock.
+pub fn on_lock(request: Request, cpu: Cpu, lock: Lock) -> LockTouched
+    ensures { λ r. ⌜ lockTouchedSays r ≡ lockTouch request cpu lock ⌝ }
+{
+    let run = cpu.run;
+    let hold = cpu.hold;
+    match request {
+        Request::Acquire(c, _) => {
+            touch_lock(rules::lock_op(Operation::Acquire, c, run, lock, hold), cpu)
+        }
+        Request::Nested(c, _) => {
+            touch_lock(rules::lock_op(Operation::Nested, c, run, lock, hold), cpu)
+        }
+        Request::Release(c, _) => {
+            touch_lock(rules::lock_op(Operation::Release, c, run, lock, hold), cpu)
+        }
+        Request::Owner(_) => leave_lock(rules::owner(lock), cpu, lock),
+        _ => leave_lock(malformed(), cpu, lock),
+    }
+}
+
+fn touch_run(o: RunOut, cpu: Cpu, thread: Thread) -> SeatTouched
+    ensures { λ r. ⌜ seatTouchedSays r ≡ touchRun (runSays o) cpu thread ⌝ }
+{
+    let code = o.code;
+    let run = o.run;
+    SeatTouched {
+        code,
+        value: 0,
+        cpu: Cpu {
+            run,
+            hold: cpu.hold,
+        },
+        thread,
+    }
+}
+
+fn touch_seat(o: SeatOut, cpu: Cpu) -> SeatTouched
+    ensures { λ r. ⌜ seatTouchedSays r ≡ touchSeat (seatSays o) cpu ⌝ }
+{
+    let code = o.code;
+    let run = o.run;
+    let thread = o.thread;
+    SeatTouched {
+        code,
+        value: 0,
+        cpu: Cpu {
+            run,
+            hold: cpu.hold,
+        },
+        thread,
+    }
+}
+
+fn touch_thread(o: ThreadOut, cpu: Cpu) -> SeatTouched
+    ensures { λ r. ⌜ seatTouchedSays r ≡ touchThread (threadSays o) cpu ⌝ }
+{
+    let code = o.code;
+    let thread = o.thread;
+    SeatTouched {
+        code,
+        value: o.value,
+        cpu,
+        thread,
+    }
+}
+
+fn leave_seat(o: ValueOut, cpu: Cpu, thread: Thread) -> SeatTouched
+    ensures { λ r. ⌜ seatTouchedSays r ≡ leaveSeat (valueSays o) cpu thread ⌝ }
+{
+    let code = o.code;
+    SeatTouched {
+        code,
+        value: o.value,
+        cpu,
+        thread,
+    }
+}
+
+// The interrupt mask for a thread, from every run cell.
+fn ipi_of(c: CpuId, n: u32, cpus: [Cpu; 4], thread: Thread) -> ValueOut
+    ensures { λ r. ⌜ valueSays r ≡ ipiOf (c .0) n cpus thread ⌝ }
+{
+    let k0 = cpus[0];
+    let k1 = cpus[1];
+    let k2 = cpus[2];
+    let k3 = cpus[3];
+    let r0 = k0.run;
+    let r1 = k1.run;
+    let r2 = k2.run;
+    let r3 = k3.run;
+    rules::ipi(c, n, r0, r1, r2, r3, thread)
+}
+
+// What a record that fails the form test comes to.
+fn malformed() -> ValueOut
+    ensures { λ r. ⌜ valueSays r ≡ answer EINVAL 0 ⌝ }
+{
+    let code = Code::Einval;
+    ValueOut { code, value: 0 }
+}
+
+// The CPU and the thread after a request that is not for a lock.
+pub fn on_seat(
+    n: u32,
+    pin_only: bool,
+    request: Request,
+    cpus: [Cpu; 4],
+    cpu: Cpu,
+    thread: Thread,
+) -> SeatTouched
+    ensures { λ r. ⌜ seatTouchedSays r ≡ seatTouch n «pin_only» request cpus cpu thread ⌝ }
+{
+    let run = cpu.run;
+    let hold = cpu.hold;
+    match request {
+        Request::Up(_) => touch_run(rules::up(run), cpu, thread),
+        Request::Down(_) => touch_run(rules::down(run), cpu, thread),
+        Request::Put(c, t) => touch_seat(rules::put(c, t, run, thread), cpu),
+        Request::Take(_, t) => touch_seat(rules::take(t, hold, run, thread), cpu),
+        Request::Mask {
+            thread: _,
+            enable,
+            disable,
+        } => touch_thread(rules::mask(enable, disable, pin_only, thread), cpu),
+        Request::Pin(_, c) => touch_thread(rules::pin(c, pin_only, thread), cpu),
+        Request::Priority(_, a) => touch_thread(rules::priority(a, thread), cpu),
+        Request::Ipi(c, _) => leave_seat(ipi_of(c, n, cpus, thread), cpu, thread),
+        _ => leave_seat(malformed(), cpu, thread),
+    }
+}
+
+// A number below the size, or 0.
+fn within(size: u32, i: u32) -> usize
+    requires { ⌜ 0 < size ⌝ }
+    ensures { λ r. ⌜ (r ≡ Touch·within size i) × (r < size) ⌝ }
+{
+    if i < size { i as usize } else { 0 }
+}
+
+pub fn cpu_index(request: Request) -> usize
+    ensures { λ r. ⌜ (r ≡ cpuIndex request) × (r < 4) ⌝ }
+{
+    match request {
+        Request::Malformed => 0,
+        Request::Up(c) => within(machine::CPU_SLOTS, c.0),
+        Request::Down(c) => within(machine::CPU_SLOTS, c.0),
+        Request::Put(c, _) => within(machine::CPU_SLOTS, c.0),
+        Request::Take(c, _) => within(machine::CPU_SLOTS, c.0),
+        Request::Acquire(c, _) => within(machine::CPU_SLOTS, c.0),
+        Request::Nested(c, _) => within(machine::CPU_SLOTS, c.0),
+        Request::Release(c, _) => within(machine::CPU_SLOTS, c.0),
+        Request::Mask {
+            thread: _,
+            enable: _,
+            disable: _,
+        } => 0,
+        Request::Pin(_, _) => 0,
+        Request::Priority(_, _) => 0,
+        Request::Ipi(_, _) => 0,
+        Request::Owner(_) => 0,
+    }
+}
+
+pub fn thread_index(request: Request) -> usize
+    ensures { λ r. ⌜ (r ≡ threadIndex request) × (r < 32) ⌝ }
+{
+    match request {
+        Request::Malformed => 0,
+        Request::Up(_) => 0,
+        Request::Down(_) => 0,
+        Request::Put(_, t) => within(machine::THREADS, t.0),
+        Request::Take(_, t) => within(machine::THREADS, t.0),
+        Request::Acquire(_, _) => 0,
+        Request::Nested(_, _) => 0,
+        Request::Release(_, _) => 0,
+        Request::Mask {
+            thread: t,
+            enable: _,
+            disable: _,
+        } => within(machine::THREADS, t.0),
+        Request::Pin(t, _) => within(machine::THREADS, t.0),
+        Request::Priority(t, _) => within(machine::THREADS, t.0),
+        Request::Ipi(_, t) => within(machine::THREADS, t.0),
+        Request::Owner(_) => 0,
+    }
+}
+
+pub fn lock_index(request: Request) -> usize
+    ensures { λ r. ⌜ (r ≡ lockIndex request) × (r < 128) ⌝ }
+{
+    match request {
+        Request::Malformed => 0,
+        Request::Up(_) => 0,
+        Request::Down(_) => 0,
+        Request::Put(_, _) => 0,
+        Request::Take(_, _) => 0,
+        Request::Acquire(_, l) => within(machine::LOCKS, l.0),
+        Request::Nested(_, l) => within(machine::LOCKS, l.0),
+        Request::Release(_, l) => within(machine::LOCKS, l.0),
+        Request::Mask {
+            thread: _,
+            enable: _,
+            disable: _,
+        } => 0,
+        Request::Pin(_, _) => 0,
+        Request::Priority(_, _) => 0,
+        Request::Ipi(_, _) => 0,
+        Request::Owner(l) => within(machine::LOCKS, l.0),
+    }
+}
