@@ -1,1 +1,7 @@
 pub mod Marked
+pub mod AnotherOrder
+pub mod AnotherOrderBytes
+pub mod Ledger
+pub mod NoInheritance
+pub mod Exclusion
+pub mod NothingLost

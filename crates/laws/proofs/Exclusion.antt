@@ -1,0 +1,39 @@
+-- While a lock is held by thread t on CPU c, no acquire of it from another CPU or thread is accepted, and no release from anyone but (c, t): a
+-- call that is accepted comes from CPU c, and t is the thread that runs there.
+--
+-- `Accepted` stands in job/specs/Job.antt. The proofs are in job/proofs/Exclusion.antt. Assumes nothing.
+use mathlib.Core.Path.{_≡_, sym, _∙_}
+use mathlib.Core.Bool.{true}
+use mathlib.Core.List.{List}
+use Prim.Native.Nat.{ℕ}
+use Rattle.words.specs.Tag.{cpuOf}
+use Rattle.spinlock_validate.specs.Owner.{tagBits}
+use Rattle.spinlock.specs.declared.Owner.{Owner}
+use Rattle.machine.specs.State.{cpuAt, lockAt}
+use Rattle.machine.specs.declared.CpuId.{CpuId}
+use Rattle.machine.specs.declared.LockId.{LockId}
+use Rattle.machine.specs.declared.Current.{Current}
+use Rattle.machine.specs.declared.Machine.{Machine}
+use Rattle.record.specs.declared.Request.{Request}
+use Rattle.wellformed.specs.WellFormed.{wellFormed}
+use Rattle.job.specs.Job.{Holder, Accepted}
+use Rattle.job.proofs.Exclusion as Job
+
+-- Lock l is held: its record names thread t, and its word CPU c. The call comes from CPU d.
+module _ (m : Machine) (formed : wellFormed m ≡ true) (l : LockId) (c t : ℕ) (thread : lockAt m (l .0) .state .owner ≡ Owner.Thread t)
+    (cpu : cpuOf tagBits (lockAt m (l .0) .word) ≡ c) (bytes : List ℕ) (d : CpuId) where
+  -- It comes from CPU c, which runs thread t.
+  abbrev FromHolder : Type 0
+  FromHolder = (d .0 ≡ c) × (cpuAt m (d .0) .run .current ≡ Current.Thread (record { 0 = t }))
+
+  from : Holder m (l .0) (d .0) t → FromHolder
+  from h = (sym (h .cpu) ∙ cpu, h .thread)
+
+  pub acquire-excluded : Accepted m bytes (Request.Acquire d l) → FromHolder
+  acquire-excluded a = from (Job.acquired-by-holder m formed bytes d l t thread a)
+
+  pub nested-excluded : Accepted m bytes (Request.Nested d l) → FromHolder
+  nested-excluded a = from (Job.nested-by-holder m formed bytes d l t thread a)
+
+  pub release-excluded : Accepted m bytes (Request.Release d l) → FromHolder
+  release-excluded a = from (Job.released-by-holder m formed bytes d l t thread a)

@@ -1,0 +1,22 @@
+-- An accepted release by a CPU and its thread undoes an accepted nested acquire by them: right after the acquire the release is accepted, and the
+-- machine is the one before the two. So a job that gives back what it took leaves the machine as it found it.
+--
+-- `Accepted` and `Gives` stand in job/specs/Job.antt. The proof is in job/proofs/Undone.antt. Assumes nothing.
+use mathlib.Core.Path.{_≡_}
+use mathlib.Core.Bool.{true}
+use mathlib.Core.List.{List}
+use Prim.Native.Nat.{ℕ}
+use Rattle.machine.specs.declared.CpuId.{CpuId}
+use Rattle.machine.specs.declared.LockId.{LockId}
+use Rattle.machine.specs.declared.Machine.{Machine}
+use Rattle.record.specs.declared.Request.{Request}
+use Rattle.wellformed.specs.WellFormed.{wellFormed}
+use Rattle.runner.specs.Step.{next}
+use Rattle.kept.proofs.Lengths.{Lengths}
+use Rattle.job.specs.Job.{Accepted, Gives}
+use Rattle.job.proofs.Undone as Job
+
+-- `Gives m c l x`: on machine x a release of l by c is accepted and gives m. `Lengths`: 4 CPUs, 32 threads and 128 locks.
+pub nothing-lost : (m : Machine) → Lengths m → wellFormed m ≡ true → (bytes : List ℕ) (c : CpuId) (l : LockId)
+    → Accepted m bytes (Request.Nested c l) → Gives m c l (next m bytes)
+nothing-lost = Job.nothing-lost
