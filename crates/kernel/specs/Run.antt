@@ -4,7 +4,6 @@ use Prim.Native.Nat.{ℕ}
 use mathlib.Core.Bool.{cond}
 use mathlib.Core.List.{List}
 use lib.IntN.{ℤ}
-use lib.ListN.{length}
 use Rattle.error.specs.Codes.{isOK}
 use Rattle.machine.specs.State.{setup}
 use Rattle.runner.specs.Run.{ran, ranRoom}

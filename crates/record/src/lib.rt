@@ -84,7 +84,7 @@ struct Fields {
 }
 
 // Four bytes as a number, high byte first.
-fn join(a: u8, b: u8, c: u8, d: u8) -> u32
+pub fn join(a: u8, b: u8, c: u8, d: u8) -> u32
     ensures { λ r. ⌜ r ≡ fromHighFirst (a ∷ b ∷ c ∷ d ∷ []) ⌝ }
 {
     (((a as u32) * 256 + (b as u32)) * 256 + (c as u32)) * 256 + (d as u32)
@@ -143,7 +143,7 @@ fn operation_of(number: u32) -> Operation
 }
 
 // The number that 32 bits stand for.
-fn signed(bits: u32) -> i32
+pub fn signed(bits: u32) -> i32
     ensures { λ r. ⌜ r ≡ toSigned 31 bits ⌝ }
 {
     if bits < 0x8000_0000 {

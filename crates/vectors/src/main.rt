@@ -1,4 +1,4 @@
-// Replays stored logs by the proved library and compares every byte of the answers. A line for each case says how it went.
+// Replays stored logs and stored calls by the proved library and compares every byte of the answers. A line for each case says how it went.
 ghost use Prim.Native.Nat.{_+_, _*_, _≤_, _<_};
 ghost use lib.ListN.{length};
 use libc::STDOUT_FILENO;
@@ -98,8 +98,92 @@ fn compare(input: &[u8], n: usize, expected: &[u8], k: usize) {
     verdict(false);
 }
 
+// The byte at a place, or 0.
+fn byte_at(s: &[u8], i: usize) -> u8 {
+    if i < s.len() { s[i] } else { 0 }
+}
+
+// Four bytes from a place on, high byte first.
+fn word_at(s: &[u8], at: usize) -> u32
+    requires { ⌜ at < 1000 ⌝ }
+{
+    record::join(
+        byte_at(s, at),
+        byte_at(s, at + 1),
+        byte_at(s, at + 2),
+        byte_at(s, at + 3),
+    )
+}
+
+// Eight bytes.
+fn long_at(s: &[u8], at: usize) -> u64
+    requires { ⌜ at < 900 ⌝ }
+{
+    word_at(s, at) as u64 * 0x1_0000_0000 + word_at(s, at + 4) as u64
+}
+
+// The bytes from a place on, or none.
+fn rest_of(s: &[u8], at: usize) -> &[u8] {
+    if at <= s.len() { &s[at..] } else { &s[..0] }
+}
+
+// The exported call that an input asks for: its number, the length of its room, its arguments at their width.
+fn called(input: &[u8], room: &mut [u8]) -> i32 {
+    let a = word_at(input, 2);
+    let b = word_at(input, 6);
+    let c = word_at(input, 10);
+    let d = word_at(input, 14);
+    let e = word_at(input, 18);
+    let wide = long_at(input, 6);
+    match byte_at(input, 0) {
+        0 => kernel::hubcrackle_spin_lock_compute_owner(a, wide, room),
+        1 => kernel::hubcrackle_spin_lock_decode_owner(long_at(input, 2), room),
+        2 => kernel::hubcrackle_spin_lock_valid(wide, a, room),
+        3 => kernel::hubcrackle_spin_unlock_valid(wide, a, long_at(input, 14), room),
+        4 => kernel::hubcrackle_cpu_mask_mod(a, b, c, d, e, room),
+        5 => kernel::hubcrackle_validate_pin_mask(a, room),
+        6 => kernel::hubcrackle_cpu_pin_compute(a, b, room),
+        7 => {
+            let cpus = rest_of(input, 22);
+            kernel::hubcrackle_compute_ipi_mask(a, record::signed(b), c, cpus, d, e, room)
+        }
+        _ => kernel::hubcrackle_validate_ipi_mask(a, b, c, room),
+    }
+}
+
+// Makes a call, and compares its code and the whole room with what is expected.
+fn compare_call(input: &[u8], expected: &[u8], room: &mut [u8]) {
+    let len = byte_at(input, 1) as usize;
+    if len > room.len() {
+        verdict(false);
+        return;
+    }
+    let code = called(input, &mut room[..len]);
+    if code == record::signed(word_at(expected, 0)) {
+        verdict(check::same(room, rest_of(expected, 4)));
+    } else {
+        verdict(false);
+    }
+}
+
+// What the lines of a file are: inputs of the program, or calls.
+fn judge(calls: bool, input: &[u8], n: usize, expected: &[u8], k: usize) {
+    if calls {
+        if n <= input.len() {
+            if k <= expected.len() {
+                let mut room = [0x55u8; 12];
+                compare_call(&input[..n], &expected[..k], &mut room);
+                return;
+            }
+        }
+        verdict(false);
+        return;
+    }
+    compare(input, n, expected, k);
+}
+
 // One line: a name, an input and its answers.
-fn case(line: &[u8]) {
+fn case(line: &[u8], calls: bool) {
     let a = find(line, 0, b' ');
     put(&line[..a]);
     if a < line.len() {
@@ -111,24 +195,24 @@ fn case(line: &[u8]) {
             let last = b + 1;
             let mut expected = [0u8; 16384];
             let k = unhex(&line[last..], &mut expected);
-            compare(&input, n, &expected, k);
+            judge(calls, &input, n, &expected, k);
             return;
         }
     }
     put(b": not a case\n");
 }
 
-fn cases(text: &[u8]) {
+fn cases(text: &[u8], calls: bool) {
     let mut at = 0;
     while at < text.len() {
         let end = find(text, at, b'\n');
-        case(&text[at..end]);
+        case(&text[at..end], calls);
         at = end + 1;
     }
 }
 
-fn main() {
-    let path = b"logs-01.txt";
+// Every line of a stored file.
+fn replay(path: &[u8], calls: bool) {
     let file = os::open_read(path);
     if file < 0 {
         os::fail(path);
@@ -137,5 +221,10 @@ fn main() {
     let mut text = [0u8; 300000];
     let n = io::read_full(file, &mut text);
     libc::close(file);
-    cases(&text[..n]);
+    cases(&text[..n], calls);
+}
+
+fn main() {
+    replay(b"logs-01.txt", false);
+    replay(b"calls-01.txt", true);
 }

@@ -53,14 +53,14 @@ slice-aggregate-unhex-2 c = search needs
 unhex-requires-2 : tie.Need-unhex-requires-2
 unhex-requires-2 c κs = search needs
 
-slice-aggregate-compare : tie.Need-slice-aggregate-compare
-slice-aggregate-compare c = search needs
+slice-aggregate-judge : tie.Need-slice-aggregate-judge
+slice-aggregate-judge c = search needs
 
-slice-aggregate-compare-2 : tie.Need-slice-aggregate-compare-2
-slice-aggregate-compare-2 c = search needs
+slice-aggregate-judge-2 : tie.Need-slice-aggregate-judge-2
+slice-aggregate-judge-2 c = search needs
 
-compare-requires : tie.Need-compare-requires
-compare-requires c κs = search needs
+judge-requires : tie.Need-judge-requires
+judge-requires c κs = search needs
 
 returns : tie.Need-returns
 returns c = search needs
@@ -94,9 +94,9 @@ case-spec =
     part-unhex-end-2
     slice-aggregate-unhex-2
     unhex-requires-2
-    slice-aggregate-compare
-    slice-aggregate-compare-2
-    compare-requires
+    slice-aggregate-judge
+    slice-aggregate-judge-2
+    judge-requires
     returns
     slice-aggregate-put-2
     put-requires-2

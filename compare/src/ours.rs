@@ -1,0 +1,126 @@
+//! The exported calls, and how an answer of theirs is held to what is expected.
+
+use std::process;
+
+use crate::sample::Sample;
+
+unsafe extern "C" {
+    fn hubcrackle_spin_lock_compute_owner(cpu: u32, thread: u64, out: *mut u8, out_len: usize) -> i32;
+    fn hubcrackle_spin_lock_decode_owner(word: u64, out: *mut u8, out_len: usize) -> i32;
+    fn hubcrackle_spin_lock_valid(word: u64, cpu: u32, out: *mut u8, out_len: usize) -> i32;
+    fn hubcrackle_spin_unlock_valid(word: u64, cpu: u32, thread: u64, out: *mut u8, out_len: usize) -> i32;
+    fn hubcrackle_cpu_mask_mod(mask: u32, enable: u32, disable: u32, running: u32, pin_only: u32, out: *mut u8, out_len: usize) -> i32;
+    fn hubcrackle_validate_pin_mask(mask: u32, out: *mut u8, out_len: usize) -> i32;
+    fn hubcrackle_cpu_pin_compute(cpu: u32, max_cpus: u32, out: *mut u8, out_len: usize) -> i32;
+    fn hubcrackle_compute_ipi_mask(
+        current: u32, prio: i32, mask: u32, cpus: *const u8, cpus_len: usize, num_cpus: u32, max_cpus: u32, out: *mut u8, out_len: usize,
+    ) -> i32;
+    fn hubcrackle_validate_ipi_mask(mask: u32, current: u32, max_cpus: u32, out: *mut u8, out_len: usize) -> i32;
+    fn hubcrackle_run(setup: u8, log: *const u8, log_len: usize, out: *mut u8, out_len: usize) -> i32;
+}
+
+pub const OK: i32 = 0;
+pub const ENOMEM: i32 = -12;
+pub const EINVAL: i32 = -22;
+
+/// Room for the longest value, nine bytes, and some to stay as it is.
+pub const ROOM: usize = 12;
+pub const FILL: u8 = 0x55;
+
+/// A call of one exported function.
+#[derive(Clone, Copy, Debug)]
+pub enum Call<'a> {
+    ComputeOwner { cpu: u32, thread: u64 },
+    DecodeOwner { word: u64 },
+    LockValid { word: u64, cpu: u32 },
+    UnlockValid { word: u64, cpu: u32, thread: u64 },
+    MaskMod { mask: u32, enable: u32, disable: u32, running: u32, pin_only: u32 },
+    PinTest { mask: u32 },
+    Pin { cpu: u32, max_cpus: u32 },
+    Ipi { current: u32, prio: i32, mask: u32, cpus: &'a [u8], num_cpus: u32, max_cpus: u32 },
+    IpiTest { mask: u32, current: u32, max_cpus: u32 },
+}
+
+impl Call<'_> {
+    /// The code of the call with this much room.
+    pub fn make(&self, room: &mut [u8]) -> i32 {
+        let (out, len) = (room.as_mut_ptr(), room.len());
+        // SAFETY: each pointer comes with the length of its slice.
+        unsafe {
+            match *self {
+                Call::ComputeOwner { cpu, thread } => hubcrackle_spin_lock_compute_owner(cpu, thread, out, len),
+                Call::DecodeOwner { word } => hubcrackle_spin_lock_decode_owner(word, out, len),
+                Call::LockValid { word, cpu } => hubcrackle_spin_lock_valid(word, cpu, out, len),
+                Call::UnlockValid { word, cpu, thread } => hubcrackle_spin_unlock_valid(word, cpu, thread, out, len),
+                Call::MaskMod { mask, enable, disable, running, pin_only } => {
+                    hubcrackle_cpu_mask_mod(mask, enable, disable, running, pin_only, out, len)
+                }
+                Call::PinTest { mask } => hubcrackle_validate_pin_mask(mask, out, len),
+                Call::Pin { cpu, max_cpus } => hubcrackle_cpu_pin_compute(cpu, max_cpus, out, len),
+                Call::Ipi { current, prio, mask, cpus, num_cpus, max_cpus } => {
+                    hubcrackle_compute_ipi_mask(current, prio, mask, cpus.as_ptr(), cpus.len(), num_cpus, max_cpus, out, len)
+                }
+                Call::IpiTest { mask, current, max_cpus } => hubcrackle_validate_ipi_mask(mask, current, max_cpus, out, len),
+            }
+        }
+    }
+}
+
+/// A log on the fresh machine of a setup byte.
+pub fn run(setup: u8, log: &[u8], out: &mut [u8]) -> i32 {
+    // SAFETY: as above.
+    unsafe { hubcrackle_run(setup, log.as_ptr(), log.len(), out.as_mut_ptr(), out.len()) }
+}
+
+/// Holds calls to what is expected, and counts them.
+pub struct Judge {
+    pub calls: u64,
+    sample: Option<Sample>,
+}
+
+impl Judge {
+    pub fn new(sample: Option<Sample>) -> Judge {
+        Judge { calls: 0, sample }
+    }
+
+    fn hold(&mut self, call: Call, len: usize, code: i32, value: &[u8]) {
+        let mut room = [FILL; ROOM];
+        let mut expected = [FILL; ROOM];
+        if code == OK {
+            expected[..value.len()].copy_from_slice(value);
+        }
+        let given = call.make(&mut room[..len]);
+        if given != code || room != expected {
+            eprintln!("{call:?} with room for {len}: code {given}, room {room:x?}; expected code {code}, room {expected:x?}");
+            process::exit(1);
+        }
+        self.calls += 1;
+        if let Some(sample) = &mut self.sample {
+            sample.add(&call, len, code, &expected);
+        }
+    }
+
+    /// The call must give this value, and ENOMEM with room for one byte less.
+    pub fn gives(&mut self, call: Call, value: &[u8]) {
+        self.hold(call, ROOM, OK, value);
+        if self.calls % 16 == 0 {
+            self.hold(call, value.len(), OK, value);
+            self.hold(call, value.len() - 1, ENOMEM, value);
+        }
+    }
+
+    /// The call must be refused with EINVAL, with no room too.
+    pub fn refuses(&mut self, call: Call) {
+        self.hold(call, ROOM, EINVAL, &[]);
+        if self.calls % 16 == 0 {
+            self.hold(call, 0, EINVAL, &[]);
+        }
+    }
+
+    pub fn finish(self) -> u64 {
+        if let Some(sample) = self.sample {
+            sample.write();
+        }
+        self.calls
+    }
+}

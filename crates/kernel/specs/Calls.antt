@@ -1,0 +1,70 @@
+-- 01, "What must change shape": the rules that the C kernel calls, each with its value as bytes.
+use Prim.Native.Nat.{ℕ}
+use mathlib.Core.Bool.{_&&_, cond}
+use mathlib.Core.List.{List}
+use lib.Dec.{eqb, leb}
+use lib.IntN.{ℤ}
+use lib.ListN.{replicate}
+use Rattle.error.specs.Codes.{OK, EINVAL}
+use Rattle.error.specs.Answer.{Answer, answer}
+use Rattle.spinlock_validate.specs.Owner.{
+  Holder,
+  nobody,
+  heldBy,
+  tagBits,
+  spinLockComputeOwner,
+  spinLockDecodeOwner,
+  spinLockValid,
+  spinUnlockValid,
+}
+use Rattle.cpu_mask.specs.Mask.{validatePinMask, cpuMaskMod, cpuPinCompute}
+use Rattle.ipi.specs.Ipi.{validateIpiMask}
+use Rattle.lent_room.specs.Room.{wordBytes, maskBytes, yesNoBytes, holderBytes, asBytes}
+use Rattle.cpu_bytes.specs.Cpus.{ipiMaskOfBytes}
+
+-- The word that a thread on a CPU makes: 8 bytes.
+abbrev pub computeOwner : ℕ → ℕ → Answer (List ℕ)
+computeOwner cpu thread = asBytes wordBytes (spinLockComputeOwner tagBits cpu thread)
+
+-- A decoding as bytes: thread 8 then CPU 1, zeros if free.
+abbrev pub decodedBytes : Holder → List ℕ
+decodedBytes nobody = replicate 9 0
+decodedBytes (heldBy thread cpu) = holderBytes thread cpu
+
+-- The decoding of a word.
+abbrev pub decodeOwner : ℕ → Answer (List ℕ)
+decodeOwner word = asBytes decodedBytes (spinLockDecodeOwner tagBits word)
+
+-- spin_lock_valid: yes or no, 1 byte.
+abbrev pub lockValid : ℕ → ℕ → Answer (List ℕ)
+lockValid word cpu = asBytes yesNoBytes (spinLockValid tagBits word cpu)
+
+-- spin_unlock_valid: yes or no.
+abbrev pub unlockValid : ℕ → ℕ → ℕ → Answer (List ℕ)
+unlockValid word cpu thread = asBytes yesNoBytes (spinUnlockValid tagBits word cpu thread)
+
+-- The mask rule with its flags as numbers: 0 is no, 1 is yes, any other EINVAL.
+unfoldable pub maskOfFlags : ℕ → ℕ → ℕ → ℕ → ℕ → Answer ℕ
+maskOfFlags current enable disable running pinOnly =
+    cond (leb running 1 && leb pinOnly 1) (cpuMaskMod current enable disable (eqb running 1) (eqb pinOnly 1))
+    (answer EINVAL current)
+
+-- The new mask: 4 bytes.
+abbrev pub maskMod : ℕ → ℕ → ℕ → ℕ → ℕ → Answer (List ℕ)
+maskMod current enable disable running pinOnly = asBytes maskBytes (maskOfFlags current enable disable running pinOnly)
+
+-- The pin test: yes or no. It refuses no mask.
+abbrev pub pinTest : ℕ → Answer (List ℕ)
+pinTest mask = asBytes yesNoBytes (answer OK (validatePinMask mask))
+
+-- The mask of one CPU.
+abbrev pub pin : ℕ → ℕ → Answer (List ℕ)
+pin cpu max = asBytes maskBytes (cpuPinCompute cpu max)
+
+-- The mask of the CPUs to interrupt, from five bytes a CPU.
+abbrev pub ipiMask : ℕ → ℤ → ℕ → List ℕ → ℕ → ℕ → Answer (List ℕ)
+ipiMask current target mask cpus num max = asBytes maskBytes (ipiMaskOfBytes current target mask cpus num max)
+
+-- validate_ipi_mask: yes or no.
+abbrev pub ipiMaskTest : ℕ → ℕ → ℕ → Answer (List ℕ)
+ipiMaskTest mask current max = asBytes yesNoBytes (validateIpiMask mask current max)

@@ -1,0 +1,150 @@
+/*
+ * Hubcrackle: spinlock, affinity and interrupt rules for a C kernel.
+ *
+ * Link target/staticlib/libkernel.a, which `rt staticlib kernel` writes for x86-64. The functions allocate nothing, keep no state between
+ * calls and call nothing but memcpy, so any number of CPUs may be in them at once.
+ *
+ * The archive is plain System V x86-64 code: it may use SSE registers and the 128 bytes below the stack pointer. Call it where both are allowed.
+ * As built now, hubcrackle_run takes about 17,000 bytes of stack, and every other function less than 512.
+ *
+ * Every function works in the same way.
+ *
+ *   - It returns a code: HUBCRACKLE_OK, or a negative number that says why it refused.
+ *   - On HUBCRACKLE_OK its value stands over the front of `out`, most significant byte first, in as many bytes as the function says. Bytes
+ *     of `out` past the value stay as they were. `out` may be longer than needed.
+ *   - On any other code no byte of `out` has changed, and there is no value.
+ *   - HUBCRACKLE_ENOMEM (`out` too short) is tested last: a call that is wrong for another reason says so, however short `out` is.
+ *   - Every number is allowed as an argument. What the rule does not accept is refused with HUBCRACKLE_EINVAL; nothing is undefined.
+ *
+ * The bytes belong to the caller, who lends them for the time of the call; no pointer is kept. A pointer is never NULL, also where its length
+ * is 0, and points to at least as many bytes as its length says. `out` does not overlap what the same call reads.
+ *
+ * That each function returns the code and leaves the bytes that its rule gives, for every argument, is proved: crates/kernel has the contracts.
+ */
+#ifndef HUBCRACKLE_H
+#define HUBCRACKLE_H
+
+#include <stddef.h>
+#include <stdint.h>
+
+/* Codes. The numbers are Zephyr's. The single calls give OK, ENOMEM and EINVAL, and hubcrackle_run returns EOVERFLOW too. The answer to one
+ * record of a log can have any of these but ENOMEM and EOVERFLOW. */
+#define HUBCRACKLE_OK 0
+#define HUBCRACKLE_EPERM (-1)       /* not the owner; thread not on that CPU */
+#define HUBCRACKLE_ENOMEM (-12)     /* `out` is too short for the value */
+#define HUBCRACKLE_EBUSY (-16)      /* held; nested 255 deep; CPU or thread occupied; CPU holds locks */
+#define HUBCRACKLE_EINVAL (-22)     /* bad number, form, record or mask; CPU down or empty; thread running */
+#define HUBCRACKLE_EALREADY (-114)  /* CPU already up, or already down */
+#define HUBCRACKLE_EOVERFLOW (-139) /* log over HUBCRACKLE_LOG_MAX bytes */
+
+/* How many bytes a value has in `out`. */
+#define HUBCRACKLE_WORD_BYTES 8   /* an owner word */
+#define HUBCRACKLE_HOLDER_BYTES 9 /* a decoded owner word: the thread, 8 bytes, and then the CPU, 1 byte */
+#define HUBCRACKLE_MASK_BYTES 4   /* a CPU mask: bit i, counted from the low end, stands for CPU i */
+#define HUBCRACKLE_YES_NO_BYTES 1 /* 1 for yes, 0 for no */
+
+/* How many bytes each of several things has that stand one behind the other. */
+#define HUBCRACKLE_CPU_BYTES 5     /* a CPU of hubcrackle_compute_ipi_mask */
+#define HUBCRACKLE_RECORD_BYTES 12 /* a record of a log */
+#define HUBCRACKLE_ANSWER_BYTES 8  /* an answer to a record */
+
+/* How long a log may be, and the room that its answers then need. */
+#define HUBCRACKLE_LOG_MAX 24576     /* 2048 records */
+#define HUBCRACKLE_ANSWERS_MAX 16384 /* 2048 answers */
+
+#ifdef __cplusplus
+extern "C" {
+#endif
+
+/*
+ * Owner words: 64 bits that say which thread on which CPU holds a lock; 0 says that nobody does. A CPU is 0 to 3. A thread word is nonzero and
+ * a multiple of 4, such as the address of an aligned thread structure.
+ */
+
+/* The owner word of a thread on a CPU: the sum of the two. Value: HUBCRACKLE_WORD_BYTES.
+ * EINVAL: the CPU is above 3; the thread word is 0 or no multiple of 4. */
+int32_t hubcrackle_spin_lock_compute_owner(uint32_t current_cpu_id, uint64_t current_thread, uint8_t *out, size_t out_len);
+
+/* Who holds the lock that has this owner word. Value: HUBCRACKLE_HOLDER_BYTES, all zero if it is free (word 0).
+ * EINVAL: the word is 1, 2 or 3, which no thread makes. */
+int32_t hubcrackle_spin_lock_decode_owner(uint64_t thread_cpu, uint8_t *out, size_t out_len);
+
+/* Whether a CPU may go for the lock that has this owner word. Value: HUBCRACKLE_YES_NO_BYTES; no exactly if the word is nonzero and names that
+ * CPU, so that the CPU would wait for itself. EINVAL: the CPU is above 3. */
+int32_t hubcrackle_spin_lock_valid(uint64_t thread_cpu, uint32_t current_cpu_id, uint8_t *out, size_t out_len);
+
+/* Whether a thread on a CPU may unlock the lock that has this owner word. Value: HUBCRACKLE_YES_NO_BYTES; yes exactly if the word is theirs.
+ * EINVAL: the CPU or the thread word is one of which hubcrackle_spin_lock_compute_owner makes no word. */
+int32_t hubcrackle_spin_unlock_valid(uint64_t thread_cpu, uint32_t current_cpu_id, uint64_t current_thread, uint8_t *out, size_t out_len);
+
+/*
+ * Affinity masks: on which CPUs a thread may run, one bit each.
+ */
+
+/* A thread's new mask: the current one with the bits of `enable` set and then those of `disable` cleared. is_running and pin_only are 0 for no
+ * and 1 for yes. Value: HUBCRACKLE_MASK_BYTES; a mask of zero is a mask.
+ * EINVAL: the thread is running; pin_only is asked for, and the new mask has not exactly one bit; a flag is neither 0 nor 1. */
+int32_t hubcrackle_cpu_mask_mod(uint32_t current_mask, uint32_t enable, uint32_t disable, uint32_t is_running, uint32_t pin_only, uint8_t *out,
+                                size_t out_len);
+
+/* Whether a mask names exactly one CPU. Value: HUBCRACKLE_YES_NO_BYTES. Never EINVAL. */
+int32_t hubcrackle_validate_pin_mask(uint32_t mask, uint8_t *out, size_t out_len);
+
+/* The mask that pins a thread to one CPU of max_cpus. Value: HUBCRACKLE_MASK_BYTES.
+ * EINVAL: max_cpus is above 32; the CPU is not below max_cpus. */
+int32_t hubcrackle_cpu_pin_compute(uint32_t cpu_id, uint32_t max_cpus, uint8_t *out, size_t out_len);
+
+/*
+ * Interprocessor interrupts, for at most 16 CPUs. A lower priority number is more important.
+ */
+
+/* Which CPUs to interrupt when a thread of priority target_prio and affinity target_cpu_mask gets ready on current_cpu: the other active CPUs
+ * of that affinity that run something less important. `cpus` has HUBCRACKLE_CPU_BYTES for each of the num_cpus CPUs in their order: 1 if it is
+ * active and else 0, and then the priority of what it runs, an int32_t in two's complement, most significant byte first.
+ * Value: HUBCRACKLE_MASK_BYTES.
+ * EINVAL: max_cpus is above 16; num_cpus is above max_cpus; current_cpu is not below num_cpus; cpus_len is not HUBCRACKLE_CPU_BYTES times
+ * num_cpus; an active byte is neither 0 nor 1. */
+int32_t hubcrackle_compute_ipi_mask(uint32_t current_cpu, int32_t target_prio, uint32_t target_cpu_mask, const uint8_t *cpus, size_t cpus_len,
+                                    uint32_t num_cpus, uint32_t max_cpus, uint8_t *out, size_t out_len);
+
+/* Whether a mask can come from hubcrackle_compute_ipi_mask with this current_cpu and this max_cpus: it spares the current CPU and names none
+ * from max_cpus on. Value: HUBCRACKLE_YES_NO_BYTES. EINVAL: max_cpus is above 16; current_cpu is not below max_cpus. */
+int32_t hubcrackle_validate_ipi_mask(uint32_t mask, uint32_t current_cpu, uint32_t max_cpus, uint8_t *out, size_t out_len);
+
+/*
+ * A whole log.
+ */
+
+/* Runs a log from its start on a fresh machine of 32 threads and 128 locks. The setup byte says the rest: 16 times the number of CPUs, 1 to 4,
+ * and 8 more if every mask must have exactly one bit.
+ *
+ * A record: byte 0 is 16 times the operation plus the CPU, byte 1 the thread, byte 2 the lock, byte 3 zero, bytes 4 to 7 A, bytes 8 to 11 B, the
+ * last two most significant byte first. What an operation does not use is zero.
+ *
+ *     operation    uses                    value of the answer
+ *      0 up        CPU                     0
+ *      1 down      CPU                     0
+ *      2 put       CPU, thread             0
+ *      3 take      CPU, thread             0
+ *      4 acquire   CPU, lock               how deep the lock is held
+ *      5 nested    CPU, lock               how deep the lock is held
+ *      6 release   CPU, lock               how deep the lock is held
+ *      7 mask      thread, A on, B off     the thread's mask
+ *      8 pin       CPU, thread             the thread's mask
+ *      9 priority  thread, A               0; A is -128 to 127, in two's complement
+ *     10 ipi       CPU, thread             the CPUs to interrupt
+ *     11 owner     lock                    the lock's owner word; thread t has thread word 4 (t + 1)
+ *
+ * An answer: the record's code, 4 bytes in two's complement, and its value, 4 bytes, both most significant byte first. A refused record has an
+ * answer too, with the value as it stands, and changes nothing; a record of another form is EINVAL with value 0.
+ *
+ * Value: HUBCRACKLE_ANSWER_BYTES for each record, in their order. An empty log has no answers and needs no room. The log is refused whole, in
+ * this order: EINVAL: a bad setup byte. EOVERFLOW: log_len is above HUBCRACKLE_LOG_MAX. EINVAL: log_len is no multiple of
+ * HUBCRACKLE_RECORD_BYTES. ENOMEM: out_len is below HUBCRACKLE_ANSWER_BYTES times the number of records. */
+int32_t hubcrackle_run(uint8_t setup, const uint8_t *log, size_t log_len, uint8_t *out, size_t out_len);
+
+#ifdef __cplusplus
+}
+#endif
+
+#endif

@@ -1,0 +1,268 @@
+/*
+ * Calls every exported function as a C kernel does, with arguments that it accepts and arguments that it refuses, and looks at the code, at the
+ * value and at every byte around it. tests/c/run builds it as C and as C++ and runs both.
+ *
+ * It includes nothing of a C library, so that a compiler for another machine needs no headers of one.
+ */
+#include "../../include/hubcrackle.h"
+
+#ifdef __cplusplus
+extern "C" {
+#endif
+int printf(const char *format, ...);
+#ifdef __cplusplus
+}
+#endif
+
+#define OK HUBCRACKLE_OK
+#define EPERM HUBCRACKLE_EPERM
+#define ENOMEM HUBCRACKLE_ENOMEM
+#define EBUSY HUBCRACKLE_EBUSY
+#define EINVAL HUBCRACKLE_EINVAL
+#define EALREADY HUBCRACKLE_EALREADY
+#define EOVERFLOW HUBCRACKLE_EOVERFLOW
+
+enum { BEFORE = 16, ROOM = 16384, AFTER = 16, ALL = BEFORE + ROOM + AFTER };
+
+/* Lent room with bytes on both sides that no call may touch. */
+static uint8_t bytes[ALL];
+static uint8_t *const out = bytes + BEFORE;
+
+/* A log of records that are all zero, which is "up" of CPU 0: the longest, and one record more. */
+static const uint8_t zeros[HUBCRACKLE_LOG_MAX + HUBCRACKLE_RECORD_BYTES] = { 0 };
+
+static int calls, wrong;
+
+/* What a byte is before a call: it differs from its neighbours. */
+static uint8_t pattern(int at)
+{
+    return (uint8_t)(0xa5 ^ at * 29);
+}
+
+static int fill(void)
+{
+    int at;
+
+    for (at = 0; at < ALL; at++)
+        bytes[at] = pattern(at);
+    return 0;
+}
+
+static int digit(char c)
+{
+    return c <= '9' ? c - '0' : c - 'a' + 10;
+}
+
+/* Counts a call. The room must begin with the value, in hexadecimal digits, and all else be as it was. */
+static void check(int line, const char *call, int32_t code, int32_t want, const char *value)
+{
+    int at, bad = code != want;
+
+    for (at = 0; at < ALL; at++) {
+        uint8_t byte = pattern(at);
+
+        if (at >= BEFORE && *value) {
+            byte = (uint8_t)(digit(value[0]) * 16 + digit(value[1]));
+            value += 2;
+        }
+        if (bytes[at] != byte) {
+            printf("calls.c:%d: byte %d of the room is %02x, and should be %02x\n", line, at - BEFORE, bytes[at], byte);
+            bad = 1;
+        }
+    }
+    if (code != want)
+        printf("calls.c:%d: the code is %d, and should be %d\n", line, (int)code, (int)want);
+    if (bad)
+        printf("calls.c:%d: WRONG: %s\n", line, call);
+    calls++;
+    wrong += bad;
+}
+
+/* Tries a call that lends `out`: its code, and its value as hexadecimal digits, "" where it is refused. */
+#define TRY(want, value, call) (fill(), check(__LINE__, #call, (call), (want), (value)))
+
+static void owner_words(void)
+{
+    const uint64_t last = UINT64_MAX - 3;
+
+    TRY(OK, "000000000000000b", hubcrackle_spin_lock_compute_owner(3, 8, out, 8)); /* M1 */
+    TRY(OK, "0123456789abcdee", hubcrackle_spin_lock_compute_owner(2, 0x0123456789abcdecu, out, 20));
+    TRY(OK, "ffffffffffffffff", hubcrackle_spin_lock_compute_owner(3, last, out, 8));
+    TRY(EINVAL, "", hubcrackle_spin_lock_compute_owner(4, 8, out, 8));
+    TRY(EINVAL, "", hubcrackle_spin_lock_compute_owner(UINT32_MAX, 8, out, 8));
+    TRY(EINVAL, "", hubcrackle_spin_lock_compute_owner(0, 0, out, 8));
+    TRY(EINVAL, "", hubcrackle_spin_lock_compute_owner(0, 10, out, 8));
+    TRY(EINVAL, "", hubcrackle_spin_lock_compute_owner(4, 8, out, 0));
+    TRY(ENOMEM, "", hubcrackle_spin_lock_compute_owner(3, 8, out, 7));
+    TRY(ENOMEM, "", hubcrackle_spin_lock_compute_owner(3, 8, out, 0));
+
+    TRY(OK, "000000000000000803", hubcrackle_spin_lock_decode_owner(11, out, 9)); /* M1 */
+    TRY(OK, "000000000000000000", hubcrackle_spin_lock_decode_owner(0, out, 9));  /* M2 */
+    TRY(OK, "000000000000000400", hubcrackle_spin_lock_decode_owner(4, out, 9));
+    TRY(OK, "0123456789abcdec02", hubcrackle_spin_lock_decode_owner(0x0123456789abcdeeu, out, 30));
+    TRY(OK, "fffffffffffffffc03", hubcrackle_spin_lock_decode_owner(UINT64_MAX, out, 9));
+    TRY(EINVAL, "", hubcrackle_spin_lock_decode_owner(1, out, 9));
+    TRY(EINVAL, "", hubcrackle_spin_lock_decode_owner(3, out, 9)); /* M2 */
+    TRY(EINVAL, "", hubcrackle_spin_lock_decode_owner(2, out, 0));
+    TRY(ENOMEM, "", hubcrackle_spin_lock_decode_owner(11, out, 8));
+    TRY(ENOMEM, "", hubcrackle_spin_lock_decode_owner(0, out, 8));
+
+    TRY(OK, "01", hubcrackle_spin_lock_valid(0, 0, out, 1));
+    TRY(OK, "00", hubcrackle_spin_lock_valid(2, 2, out, 1)); /* M3 */
+    TRY(OK, "00", hubcrackle_spin_lock_valid(11, 3, out, 1));
+    TRY(OK, "01", hubcrackle_spin_lock_valid(11, 2, out, 5));
+    TRY(EINVAL, "", hubcrackle_spin_lock_valid(11, 4, out, 1));
+    TRY(EINVAL, "", hubcrackle_spin_lock_valid(0, 4, out, 0));
+    TRY(ENOMEM, "", hubcrackle_spin_lock_valid(11, 3, out, 0));
+
+    TRY(OK, "01", hubcrackle_spin_unlock_valid(11, 3, 8, out, 1));
+    TRY(OK, "00", hubcrackle_spin_unlock_valid(11, 2, 8, out, 1));
+    TRY(OK, "00", hubcrackle_spin_unlock_valid(11, 3, 12, out, 6));
+    TRY(OK, "00", hubcrackle_spin_unlock_valid(0, 0, 4, out, 1));
+    TRY(OK, "01", hubcrackle_spin_unlock_valid(UINT64_MAX, 3, last, out, 1));
+    TRY(EINVAL, "", hubcrackle_spin_unlock_valid(12, 4, 8, out, 1));
+    TRY(EINVAL, "", hubcrackle_spin_unlock_valid(3, 3, 0, out, 1));
+    TRY(EINVAL, "", hubcrackle_spin_unlock_valid(9, 0, 9, out, 0));
+    TRY(ENOMEM, "", hubcrackle_spin_unlock_valid(11, 3, 8, out, 0));
+}
+
+static void masks(void)
+{
+    TRY(OK, "00000006", hubcrackle_cpu_mask_mod(5, 2, 1, 0, 0, out, 4)); /* M4 */
+    TRY(EINVAL, "", hubcrackle_cpu_mask_mod(5, 2, 1, 0, 1, out, 4));     /* M4 */
+    TRY(OK, "00000001", hubcrackle_cpu_mask_mod(1, 8, 8, 0, 0, out, 4)); /* M5 */
+    TRY(OK, "00000000", hubcrackle_cpu_mask_mod(7, 0, UINT32_MAX, 0, 0, out, 4)); /* M6 */
+    TRY(EINVAL, "", hubcrackle_cpu_mask_mod(7, 0, UINT32_MAX, 0, 1, out, 4));     /* M6 */
+    TRY(OK, "89abcdef", hubcrackle_cpu_mask_mod(0x80a0c0e0u, 0x090b0d0fu, 0, 0, 0, out, 9));
+    TRY(OK, "80000000", hubcrackle_cpu_mask_mod(1, 0x80000000u, 1, 0, 1, out, 4));
+    TRY(EINVAL, "", hubcrackle_cpu_mask_mod(5, 2, 1, 1, 0, out, 4));
+    TRY(EINVAL, "", hubcrackle_cpu_mask_mod(5, 2, 1, 2, 0, out, 4));
+    TRY(EINVAL, "", hubcrackle_cpu_mask_mod(5, 2, 5, 0, 2, out, 4));
+    TRY(EINVAL, "", hubcrackle_cpu_mask_mod(5, 2, 5, 0, UINT32_MAX, out, 4));
+    TRY(EINVAL, "", hubcrackle_cpu_mask_mod(5, 2, 1, 256, 0, out, 0));
+    TRY(ENOMEM, "", hubcrackle_cpu_mask_mod(5, 2, 1, 0, 0, out, 3));
+
+    TRY(OK, "00", hubcrackle_validate_pin_mask(0, out, 1));
+    TRY(OK, "01", hubcrackle_validate_pin_mask(1, out, 1));
+    TRY(OK, "01", hubcrackle_validate_pin_mask(0x80000000u, out, 3));
+    TRY(OK, "00", hubcrackle_validate_pin_mask(0x80000001u, out, 1));
+    TRY(OK, "00", hubcrackle_validate_pin_mask(UINT32_MAX, out, 1));
+    TRY(ENOMEM, "", hubcrackle_validate_pin_mask(1, out, 0));
+
+    TRY(OK, "80000000", hubcrackle_cpu_pin_compute(31, 32, out, 4)); /* M7 */
+    TRY(EINVAL, "", hubcrackle_cpu_pin_compute(32, 33, out, 4));     /* M7 */
+    TRY(EINVAL, "", hubcrackle_cpu_pin_compute(0, 0, out, 4));       /* M7 */
+    TRY(OK, "00000001", hubcrackle_cpu_pin_compute(0, 1, out, 40));
+    TRY(EINVAL, "", hubcrackle_cpu_pin_compute(0, 33, out, 4));
+    TRY(EINVAL, "", hubcrackle_cpu_pin_compute(4, 4, out, 0));
+    TRY(ENOMEM, "", hubcrackle_cpu_pin_compute(31, 32, out, 3));
+}
+
+static void interrupts(void)
+{
+    /* M9: priorities 9 9 5 9, CPU 3 inactive; and one byte more. */
+    static const uint8_t four[] = { 1, 0, 0, 0, 9, 1, 0, 0, 0, 9, 1, 0, 0, 0, 5, 0, 0, 0, 0, 9, 0 };
+    /* The least and the greatest priority, and -1. */
+    static const uint8_t ends[] = { 1, 0x80, 0, 0, 0, 1, 0x7f, 0xff, 0xff, 0xff, 1, 0xff, 0xff, 0xff, 0xff };
+    static const uint8_t two_active[] = { 1, 0, 0, 0, 9, 2, 0, 0, 0, 9 };
+    uint8_t many[85];
+    int at;
+
+    /* Seventeen CPUs, each active and running at priority 256. */
+    for (at = 0; at < 85; at++)
+        many[at] = at % 5 == 0 || at % 5 == 3;
+
+    TRY(OK, "00000002", hubcrackle_compute_ipi_mask(0, 5, 15, four, 20, 4, 4, out, 4));                   /* M9 */
+    TRY(OK, "00000000", hubcrackle_compute_ipi_mask(0, INT32_MAX, 15, four, 20, 4, 4, out, 4));           /* M10 */
+    TRY(OK, "00000005", hubcrackle_compute_ipi_mask(1, 4, UINT32_MAX, four, 20, 4, 16, out, 11));
+    TRY(OK, "00000004", hubcrackle_compute_ipi_mask(1, 4, 4, four, 20, 4, 16, out, 4));
+    TRY(OK, "00000006", hubcrackle_compute_ipi_mask(0, INT32_MIN, UINT32_MAX, ends, 15, 3, 3, out, 4));
+    TRY(OK, "00000002", hubcrackle_compute_ipi_mask(0, -1, UINT32_MAX, ends, 15, 3, 3, out, 4));
+    TRY(OK, "0000ff7f", hubcrackle_compute_ipi_mask(7, 255, UINT32_MAX, many, 80, 16, 16, out, 4));
+    TRY(OK, "00000000", hubcrackle_compute_ipi_mask(7, 256, UINT32_MAX, many, 80, 16, 16, out, 4));
+    TRY(EINVAL, "", hubcrackle_compute_ipi_mask(0, 5, 15, many, 85, 17, 17, out, 4));
+    TRY(EINVAL, "", hubcrackle_compute_ipi_mask(0, 5, 15, four, 20, 4, 17, out, 4));
+    TRY(EINVAL, "", hubcrackle_compute_ipi_mask(0, 5, 15, four, 20, 4, 3, out, 4));
+    TRY(EINVAL, "", hubcrackle_compute_ipi_mask(4, 5, 15, four, 20, 4, 4, out, 4));
+    TRY(EINVAL, "", hubcrackle_compute_ipi_mask(0, 5, 15, four, 19, 4, 4, out, 4));
+    TRY(EINVAL, "", hubcrackle_compute_ipi_mask(0, 5, 15, four, 21, 4, 4, out, 4));
+    TRY(EINVAL, "", hubcrackle_compute_ipi_mask(0, 5, 15, four, 0, 4, 4, out, 4));
+    TRY(EINVAL, "", hubcrackle_compute_ipi_mask(0, 5, 15, four, 0, 0, 4, out, 4));
+    TRY(EINVAL, "", hubcrackle_compute_ipi_mask(0, 5, 15, two_active, 10, 2, 4, out, 4));
+    /* Five times these is 4 and 0 below 2 to the power 32. */
+    TRY(EINVAL, "", hubcrackle_compute_ipi_mask(0, 5, 15, four, 4, 0x33333334u, UINT32_MAX, out, 4));
+    TRY(EINVAL, "", hubcrackle_compute_ipi_mask(0, 5, 15, four, 0, UINT32_MAX, UINT32_MAX, out, 4));
+    TRY(EINVAL, "", hubcrackle_compute_ipi_mask(0, 5, 15, two_active, 10, 2, 4, out, 0));
+    TRY(ENOMEM, "", hubcrackle_compute_ipi_mask(0, 5, 15, four, 20, 4, 4, out, 3));
+
+    TRY(OK, "01", hubcrackle_validate_ipi_mask(2, 0, 4, out, 1));
+    TRY(OK, "01", hubcrackle_validate_ipi_mask(0, 3, 4, out, 1));
+    TRY(OK, "00", hubcrackle_validate_ipi_mask(3, 0, 4, out, 1));
+    TRY(OK, "00", hubcrackle_validate_ipi_mask(16, 0, 4, out, 8));
+    TRY(OK, "01", hubcrackle_validate_ipi_mask(0xff7fu, 7, 16, out, 1));
+    TRY(OK, "00", hubcrackle_validate_ipi_mask(0x10000u, 7, 16, out, 1));
+    TRY(EINVAL, "", hubcrackle_validate_ipi_mask(2, 4, 4, out, 1));
+    TRY(EINVAL, "", hubcrackle_validate_ipi_mask(2, 0, 17, out, 1));
+    TRY(EINVAL, "", hubcrackle_validate_ipi_mask(2, 0, 0, out, 0));
+    TRY(ENOMEM, "", hubcrackle_validate_ipi_mask(2, 0, 4, out, 0));
+}
+
+static void logs(void)
+{
+    /* "One log entire" of document 01, without the eight zero bytes that end each record. */
+    static const uint8_t heads[][4] = { { 0x00, 0, 0, 0 }, { 0x20, 3, 0, 0 }, { 0x40, 0, 7, 0 }, { 0x50, 0, 7, 0 },
+                                        { 0x30, 3, 0, 0 }, { 0xb0, 0, 7, 0 }, { 0x60, 0, 7, 0 } };
+    /* Take from an idle CPU, and up twice: refused records have answers too. */
+    static const uint8_t refusals[36] = { 0x30, 3, 0, 0, 0, 0, 0, 0, 0, 0, 0, 0, 0x00 };
+    uint8_t log[7 * HUBCRACKLE_RECORD_BYTES];
+    int at;
+
+    for (at = 0; at < (int)sizeof log; at++)
+        log[at] = at % 12 < 4 ? heads[at / 12][at % 12] : 0;
+
+    TRY(OK,
+        "0000000000000000"
+        "0000000000000000"
+        "0000000000000001"
+        "0000000000000002"
+        "fffffff000000000"
+        "0000000000000010"
+        "0000000000000001",
+        hubcrackle_run(0x20, log, sizeof log, out, 56)); /* M11 */
+    TRY(OK, "0000000000000000", hubcrackle_run(0x20, log, 12, out, ROOM));
+    TRY(OK, "ffffffff000000000000000000000000ffffff8e00000000", hubcrackle_run(0x48, refusals, 36, out, 24));
+    TRY(OK, "", hubcrackle_run(0x10, log, 0, out, 0));
+    TRY(EINVAL, "", hubcrackle_run(0x00, log, 12, out, 8));
+    TRY(EINVAL, "", hubcrackle_run(0x50, log, 12, out, 8));
+    TRY(EINVAL, "", hubcrackle_run(0x21, log, 12, out, 8));
+    TRY(EINVAL, "", hubcrackle_run(0x00, zeros, HUBCRACKLE_LOG_MAX + 1, out, 0));
+    TRY(EOVERFLOW, "", hubcrackle_run(0x20, zeros, HUBCRACKLE_LOG_MAX + 1, out, ROOM));
+    TRY(EOVERFLOW, "", hubcrackle_run(0x20, zeros, HUBCRACKLE_LOG_MAX + 12, out, 0));
+    TRY(EINVAL, "", hubcrackle_run(0x20, log, 13, out, 56));
+    TRY(EINVAL, "", hubcrackle_run(0x20, log, 11, out, 0));
+    TRY(ENOMEM, "", hubcrackle_run(0x20, log, sizeof log, out, 55));
+    TRY(ENOMEM, "", hubcrackle_run(0x20, zeros, HUBCRACKLE_LOG_MAX, out, ROOM - 1));
+}
+
+/* The longest log: the first record is accepted, and the other 2047 are EALREADY. */
+static void longest_log(void)
+{
+    static char answers[2 * ROOM + 1];
+    static const char first[] = "0000000000000000", other[] = "ffffff8e00000000";
+    int at;
+
+    for (at = 0; at < 2 * ROOM; at++)
+        answers[at] = at < 16 ? first[at] : other[at % 16];
+    TRY(OK, answers, hubcrackle_run(0x20, zeros, HUBCRACKLE_LOG_MAX, out, ROOM));
+}
+
+int main(void)
+{
+    owner_words();
+    masks();
+    interrupts();
+    logs();
+    longest_log();
+    printf("%d calls, %d wrong\n", calls, wrong);
+    return wrong != 0;
+}
