@@ -162,9 +162,10 @@ impl Machine {
                 None => cpu.priority == IDLE,
                 Some(t) => {
                     cpu.active
-                        && self.threads.get(t as usize).is_some_and(|thread| {
-                            thread.priority == cpu.priority && thread.place == Some(c as u32) && thread.mask >> c & 1 == 1
-                        })
+                        && self
+                            .threads
+                            .get(t as usize)
+                            .is_some_and(|thread| thread.priority == cpu.priority && thread.place == Some(c as u32) && thread.mask >> c & 1 == 1)
                 }
             }
     }

@@ -1,27 +1,22 @@
 //! Times each exported call against upstream's body, its Verus text erased, behind a call of the same kind: `extern "C"`, not inlined, its value
 //! written into lent room high byte first. Upstream's side makes no tests; ours also tests its input.
 
+#[path = "../../compare/src/hubcrackle.rs"]
+mod hubcrackle;
+#[path = "../../compare/src/random.rs"]
+mod random;
+
 use std::hint::black_box;
 use std::time::Instant;
 
+use hubcrackle::*;
+use random::Random;
 use upstream::{cpu_mask, ipi, spinlock_validate};
-
-unsafe extern "C" {
-    fn hubcrackle_spin_lock_compute_owner(cpu: u32, thread: u64, out: *mut u8, out_len: usize) -> i32;
-    fn hubcrackle_spin_lock_valid(word: u64, cpu: u32, out: *mut u8, out_len: usize) -> i32;
-    fn hubcrackle_spin_unlock_valid(word: u64, cpu: u32, thread: u64, out: *mut u8, out_len: usize) -> i32;
-    fn hubcrackle_cpu_mask_mod(mask: u32, enable: u32, disable: u32, running: u32, pin_only: u32, out: *mut u8, out_len: usize) -> i32;
-    fn hubcrackle_validate_pin_mask(mask: u32, out: *mut u8, out_len: usize) -> i32;
-    fn hubcrackle_cpu_pin_compute(cpu: u32, max_cpus: u32, out: *mut u8, out_len: usize) -> i32;
-    fn hubcrackle_compute_ipi_mask(
-        current: u32, prio: i32, mask: u32, cpus: *const u8, cpus_len: usize, num_cpus: u32, max_cpus: u32, out: *mut u8, out_len: usize,
-    ) -> i32;
-    fn hubcrackle_validate_ipi_mask(mask: u32, current: u32, max_cpus: u32, out: *mut u8, out_len: usize) -> i32;
-}
 
 const OK: i32 = 0;
 const ENOMEM: i32 = -12;
 const ROOM: usize = 12;
+const SEED: u64 = 1;
 const INPUTS: usize = 1_024;
 const ROUNDS: usize = 2_000;
 const GOAL: f64 = 1.2;
@@ -79,7 +74,15 @@ mod theirs {
 
     #[inline(never)]
     pub extern "C" fn ipi_mask(
-        current: u32, prio: i32, mask: u32, cpus: *const u8, cpus_len: usize, num_cpus: u32, max_cpus: u32, out: *mut u8, out_len: usize,
+        current: u32,
+        prio: i32,
+        mask: u32,
+        cpus: *const u8,
+        cpus_len: usize,
+        num_cpus: u32,
+        max_cpus: u32,
+        out: *mut u8,
+        out_len: usize,
     ) -> i32 {
         // SAFETY: the pointer comes with the length of its slice.
         let bytes = unsafe { std::slice::from_raw_parts(cpus, cpus_len) };
@@ -109,23 +112,17 @@ struct Input {
 }
 
 fn inputs() -> Vec<Input> {
-    let mut state = 0x9e37_79b9_7f4a_7c15u64;
-    let mut next = || {
-        state ^= state << 13;
-        state ^= state >> 7;
-        state ^= state << 17;
-        state
-    };
+    let mut random = Random::new(SEED);
     let mut made = Vec::new();
     for _ in 0..INPUTS {
-        let cpu = (next() >> 40) as u32 % 4;
-        let thread = next() << 2 | 4;
-        let word = if next() % 2 == 0 { thread + u64::from(cpu) } else { next() };
-        let masks = [next() as u32, next() as u32, !(1 << (next() >> 40) % 32)];
+        let cpu = random.below(4) as u32;
+        let thread = random.next() << 2 | 4;
+        let word = if random.below(2) == 0 { thread + u64::from(cpu) } else { random.next() };
+        let masks = [random.word(), random.word(), !(1 << random.below(32))];
         let mut cpus = [0; MAX_CPUS * BYTES_A_CPU];
         for cpu in cpus.chunks_exact_mut(BYTES_A_CPU) {
-            cpu[0] = (next() >> 40) as u8 % 2;
-            cpu[1..].copy_from_slice(&((next() >> 32) as i32 >> 24).to_be_bytes());
+            cpu[0] = random.below(2) as u8;
+            cpu[1..].copy_from_slice(&(random.word() as i32 >> 24).to_be_bytes());
         }
         made.push(Input { cpu, thread, word, masks, cpus });
     }

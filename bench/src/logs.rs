@@ -1,14 +1,14 @@
 //! Logs for the benchmark, from a generator with a fixed seed.
 
 use crate::baseline::{Machine, OK, RECORD_BYTES};
+use crate::random::Random;
 
 pub const RECORDS: usize = 2_048;
 
 /// Four CPUs, no pin-only.
 pub const SETUP: u8 = 0x40;
 
-pub const OPERATIONS: [&str; 12] =
-    ["up", "down", "put", "take", "acquire", "nested", "release", "mask", "pin", "priority", "ipi", "owner"];
+pub const OPERATIONS: [&str; 12] = ["up", "down", "put", "take", "acquire", "nested", "release", "mask", "pin", "priority", "ipi", "owner"];
 
 /// How often each operation is drawn, so that each is accepted often.
 const SHARES: [u64; 12] = [6, 4, 40, 60, 3, 3, 30, 1, 1, 1, 1, 1];
@@ -20,25 +20,20 @@ const LOCKS: u64 = 16;
 /// How many records are drawn to find one that is accepted. Some stay refused, as on a controller.
 const DRAWS: usize = 24;
 
-/// Marsaglia's xorshift, 64 bits.
-pub struct Random(u64);
-
-impl Random {
-    pub fn new(seed: u64) -> Random {
-        Random(seed.wrapping_mul(0x9e37_79b9_7f4a_7c15) | 1)
-    }
-
-    fn below(&mut self, limit: u64) -> u64 {
-        self.0 ^= self.0 << 13;
-        self.0 ^= self.0 >> 7;
-        self.0 ^= self.0 << 17;
-        (self.0 >> 11) % limit
-    }
-
-    fn operation(&mut self) -> usize {
-        let mut left = self.below(SHARES.iter().sum());
-        SHARES.iter().position(|&share| if left < share { true } else { left -= share; false }).expect("the shares add up")
-    }
+/// The next operation, by the shares.
+fn drawn(random: &mut Random) -> usize {
+    let mut left = random.below(SHARES.iter().sum());
+    SHARES
+        .iter()
+        .position(|&share| {
+            if left < share {
+                true
+            } else {
+                left -= share;
+                false
+            }
+        })
+        .expect("the shares add up")
 }
 
 /// A record of an operation, with its used fields in range.
@@ -84,7 +79,7 @@ fn log_of(random: &mut Random, mut operation: impl FnMut(&mut Random) -> usize) 
 
 /// Every operation in turn, at random.
 pub fn mixed(random: &mut Random) -> Vec<u8> {
-    log_of(random, Random::operation)
+    log_of(random, drawn)
 }
 
 /// One operation only.

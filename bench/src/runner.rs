@@ -1,19 +1,21 @@
 //! Times the exported runner against the same rules written for speed in Rust, in one process, and first compares their bytes.
 
 mod baseline;
+#[path = "../../compare/src/hubcrackle.rs"]
+mod hubcrackle;
 mod logs;
+#[path = "../../compare/src/random.rs"]
+mod random;
 
 use std::hint::black_box;
 use std::time::Instant;
 
 use baseline::{ANSWER_BYTES, OK, RECORD_BYTES};
-use logs::{OPERATIONS, RECORDS, Random, SETUP};
+use hubcrackle::hubcrackle_run;
+use logs::{OPERATIONS, RECORDS, SETUP};
+use random::Random;
 
 type Run = unsafe extern "C" fn(u8, *const u8, usize, *mut u8, usize) -> i32;
-
-unsafe extern "C" {
-    fn hubcrackle_run(setup: u8, log: *const u8, log_len: usize, out: *mut u8, out_len: usize) -> i32;
-}
 
 /// The proved runner, and the baseline.
 const RUNS: [Run; 2] = [hubcrackle_run, baseline::run];

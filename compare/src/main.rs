@@ -3,6 +3,7 @@
 //! Where upstream `requires` something of its caller, ours must refuse with EINVAL: that is the one kind of difference there may be, and it is the
 //! list in docs/DIFFERENCES.md.
 
+mod hubcrackle;
 mod interrupt;
 mod lock;
 mod mask;

@@ -1,23 +1,9 @@
-//! The exported calls, and how an answer of theirs is held to what is expected.
+//! A call of an exported function, and how its answer is held to what is expected.
 
 use std::process;
 
+use crate::hubcrackle::*;
 use crate::sample::Sample;
-
-unsafe extern "C" {
-    fn hubcrackle_spin_lock_compute_owner(cpu: u32, thread: u64, out: *mut u8, out_len: usize) -> i32;
-    fn hubcrackle_spin_lock_decode_owner(word: u64, out: *mut u8, out_len: usize) -> i32;
-    fn hubcrackle_spin_lock_valid(word: u64, cpu: u32, out: *mut u8, out_len: usize) -> i32;
-    fn hubcrackle_spin_unlock_valid(word: u64, cpu: u32, thread: u64, out: *mut u8, out_len: usize) -> i32;
-    fn hubcrackle_cpu_mask_mod(mask: u32, enable: u32, disable: u32, running: u32, pin_only: u32, out: *mut u8, out_len: usize) -> i32;
-    fn hubcrackle_validate_pin_mask(mask: u32, out: *mut u8, out_len: usize) -> i32;
-    fn hubcrackle_cpu_pin_compute(cpu: u32, max_cpus: u32, out: *mut u8, out_len: usize) -> i32;
-    fn hubcrackle_compute_ipi_mask(
-        current: u32, prio: i32, mask: u32, cpus: *const u8, cpus_len: usize, num_cpus: u32, max_cpus: u32, out: *mut u8, out_len: usize,
-    ) -> i32;
-    fn hubcrackle_validate_ipi_mask(mask: u32, current: u32, max_cpus: u32, out: *mut u8, out_len: usize) -> i32;
-    fn hubcrackle_run(setup: u8, log: *const u8, log_len: usize, out: *mut u8, out_len: usize) -> i32;
-}
 
 pub const OK: i32 = 0;
 pub const ENOMEM: i32 = -12;

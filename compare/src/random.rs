@@ -1,4 +1,6 @@
-//! Marsaglia's xorshift, 64 bits, and numbers at the limits.
+//! Marsaglia's xorshift, 64 bits, and numbers at the limits. bench/ uses this file too.
+
+#![allow(dead_code)]
 
 pub struct Random(u64);
 

@@ -49,9 +49,7 @@ fn input(call: &Call) -> (u8, Vec<u8>) {
         Call::MaskMod { mask, enable, disable, running, pin_only } => (4, words(&[mask, enable, disable, running, pin_only])),
         Call::PinTest { mask } => (5, words(&[mask])),
         Call::Pin { cpu, max_cpus } => (6, words(&[cpu, max_cpus])),
-        Call::Ipi { current, prio, mask, cpus, num_cpus, max_cpus } => {
-            (7, with(words(&[current, prio as u32, mask, num_cpus, max_cpus]), cpus))
-        }
+        Call::Ipi { current, prio, mask, cpus, num_cpus, max_cpus } => (7, with(words(&[current, prio as u32, mask, num_cpus, max_cpus]), cpus)),
         Call::IpiTest { mask, current, max_cpus } => (8, words(&[mask, current, max_cpus])),
     }
 }
