@@ -2,7 +2,7 @@
 -- Assumes nothing.
 use mathlib.Core.Path.{_≡_, refl, sym, ap, _∙_}
 use mathlib.Core.Logic.{_⊎_, inl, inr}
-use mathlib.Core.Bool.{Bool, true, false, _&&_, not}
+use mathlib.Core.Bool.{Bool, true, false, _&&_, not, and-assoc}
 use Prim.Native.Nat.{ℕ, zero, suc, _+_, _≤_, _<_}
 use native.Mathlib.Nat.{not-suc-le-zero, le-of-suc-le-suc, le-refl, eq-or-lt-of-le}
 use native.Mathlib.Numerals.{add-one}
@@ -23,6 +23,43 @@ all-more p k = rw add-one
 pub sum-more : (f : ℕ → ℕ) (k : ℕ) → sumBelow f (k + 1) ≡ sumBelow f k + f k
 unfolding sumBelow
 sum-more f k = rw add-one
+
+-- One turn of a loop that asks three tests, one after the other.
+pub turn :
+    (f : ℕ → Bool) (k : ℕ) {ok a b c p q r : Bool}
+    → allBelow f k ≡ ok → a ≡ p → b ≡ q → c ≡ r → (p && (q && r)) ≡ f k → allBelow f (k + 1) ≡ (((ok && a) && b) && c)
+turn f k below x y z tests = simp and-assoc (cc (all-more f k))
+
+-- A loop over two tests at once is a loop over each.
+all-both : (p q : ℕ → Bool) (k : ℕ) → allBelow (λ i. p i && q i) k ≡ (allBelow p k && allBelow q k)
+unfolding allBelow
+all-both p q zero = refl
+all-both p q (suc k) = ap (λ t. t && (p k && q k)) (all-both p q k) ∙ swap (allBelow p k) (allBelow q k) (p k)
+  where
+    swap : (a b c : Bool) → ((a && b) && (c && q k)) ≡ ((a && c) && (b && q k))
+    swap false b c = refl
+    swap true false false = refl
+    swap true false true = refl
+    swap true true c = refl
+
+pub all-three : (p q r : ℕ → Bool) (k : ℕ) → allBelow (λ i. p i && (q i && r i)) k ≡ (allBelow p k && (allBelow q k && allBelow r k))
+all-three p q r k = all-both p (λ i. q i && r i) k ∙ ap (λ t. allBelow p k && t) (all-both q r k)
+
+-- The loops' results, CPUs first and threads last, in the order of 01's clauses.
+pub in-order :
+    (slots currents idles locks holds places rest : Bool)
+    → ((((slots && (currents && idles)) && locks) && holds) && (places && rest))
+    ≡ (slots && (locks && (holds && (currents && (places && (idles && rest))))))
+in-order false currents idles locks holds places rest = refl
+in-order true true true false holds places rest = refl
+in-order true true true true holds places rest = refl
+in-order true true false false holds places rest = refl
+in-order true true false true false places rest = refl
+in-order true true false true true false rest = refl
+in-order true true false true true true rest = refl
+in-order true false idles false holds places rest = refl
+in-order true false idles true false places rest = refl
+in-order true false idles true true places rest = refl
 
 -- A conjunct that holds leaves the rest to decide.
 pub passed : {a b r : Bool} → a ≡ true → r ≡ b → r ≡ (a && b)

@@ -133,6 +133,14 @@ maskBy pinOnly thread = not pinOnly || eqb (ones (thread .mask)) 1
 abbrev pub maskOk : Machine → ℕ → Bool
 maskOk m t = maskBy (m .«pin_only») (threadAt m t)
 
+-- Slot, current thread and idle priority of CPU c of the machine.
+abbrev pub cpuOk : Machine → ℕ → Bool
+cpuOk m c = slotOk m c && (currentOk m c && idleOk m c)
+
+-- Place, priority and mask of thread t of the machine.
+abbrev pub threadOk : Machine → ℕ → Bool
+threadOk m t = placeOk m t && (priorityOk m t && maskOk m t)
+
 -- Well-formed: the nine clauses, in 01's order.
 unfoldable pub wellFormed : Machine → Bool
 wellFormed m =

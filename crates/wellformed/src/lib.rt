@@ -1,8 +1,9 @@
 // Well-formedness: the test that step and runner put to a machine before they work on it.
 //
-// New here: upstream has the single rules and no machine. 01, "The machine", "Well-formed": nine clauses, each a function for one index and a
-// loop over them. The loop hands over the elements that the function looks at and not the machine, which is 4 KB; hold alone is a sum over
-// every lock. proofs/Facts.antt says the clauses as facts, and that the test is true exactly where they hold.
+// New here: upstream has the single rules and no machine. 01, "The machine", "Well-formed": nine clauses, each a function for one index. The
+// loops are fewer: one for what is asked of each CPU, one for what is asked of each thread, and one each for locks and holds. A loop hands
+// over the elements that the function looks at and not the machine, which is 4 KB; hold alone is a sum over every lock. proofs/Facts.antt
+// says the clauses as facts, and that the test is true exactly where they hold.
 ghost use mathlib.Core.Path.{_≡_};
 ghost use Prim.Native.Nat.{_<_, _≤_};
 ghost use Rattle.words.specs.Bit.{bit};
@@ -14,22 +15,18 @@ ghost use Rattle.wellformed.specs.WellFormed.{
   isPlace,
   sizeOk,
   slotBy,
-  slotOk,
   ownerOk,
   lockBy,
   lockOk,
   depthFor,
   holdOk,
   currentBy,
-  currentOk,
   placeBy,
-  placeOk,
   idleBy,
-  idleOk,
   inRange,
-  priorityOk,
   maskBy,
-  maskOk,
+  cpuOk,
+  threadOk,
   wellFormed,
 };
 use machine::CPU_SLOTS;
@@ -127,20 +124,6 @@ fn slot_ok(n: u32, c: CpuId, cpu: Cpu) -> bool
         return false;
     }
     cpu.hold == 0
-}
-
-fn slots_ok(m: Machine) -> bool
-    ensures { λ r. ⌜ r ≡ allBelow (slotOk m) cpuSlots ⌝ }
-{
-    let mut ok = true;
-    let mut c: u32 = 0;
-    while c < CPU_SLOTS {
-        let at = c as usize;
-        let cpu = m.cpus[at];
-        ok = ok & slot_ok(m.n, CpuId(c), cpu);
-        c += 1;
-    }
-    ok
 }
 
 // A held lock has its flag set, and its word is made from its owner's thread word and a CPU below n on which that owner is current.
@@ -272,21 +255,6 @@ fn current_ok(threads: [Thread; 32], c: CpuId, cpu: Cpu) -> bool
     }
 }
 
-fn currents_ok(m: Machine) -> bool
-    ensures { λ r. ⌜ r ≡ allBelow (currentOk m) cpuSlots ⌝ }
-{
-    let mut ok = true;
-    let mut c: u32 = 0;
-    let threads = m.threads;
-    while c < CPU_SLOTS {
-        let at = c as usize;
-        let cpu = m.cpus[at];
-        ok = ok & current_ok(threads, CpuId(c), cpu);
-        c += 1;
-    }
-    ok
-}
-
 // A placed thread is the current thread of the CPU below n that is its place.
 fn place_ok(n: u32, cpus: [Cpu; 4], t: ThreadId, thread: Thread) -> bool
     requires { ⌜ n ≤ cpuSlots ⌝ }
@@ -297,22 +265,6 @@ fn place_ok(n: u32, cpus: [Cpu; 4], t: ThreadId, thread: Thread) -> bool
         Place::Nowhere => true,
         Place::On(cpu) => if cpu.0 < n { runs(cpus, cpu, t) } else { false },
     }
-}
-
-fn places_ok(m: Machine) -> bool
-    requires { ⌜ m .n ≤ cpuSlots ⌝ }
-    ensures { λ r. ⌜ r ≡ allBelow (placeOk m) threadCount ⌝ }
-{
-    let mut ok = true;
-    let mut t: u32 = 0;
-    let cpus = m.cpus;
-    while t < THREADS {
-        let at = t as usize;
-        let thread = m.threads[at];
-        ok = ok & place_ok(m.n, cpus, ThreadId(t), thread);
-        t += 1;
-    }
-    ok
 }
 
 // No current thread means priority 128.
@@ -326,20 +278,6 @@ fn idle_ok(cpu: Cpu) -> bool
         Current::None => same_priority(priority, IDLE_PRIORITY),
         Current::Thread(_) => true,
     }
-}
-
-fn idles_ok(m: Machine) -> bool
-    ensures { λ r. ⌜ r ≡ allBelow (idleOk m) cpuSlots ⌝ }
-{
-    let mut ok = true;
-    let mut c: u32 = 0;
-    while c < CPU_SLOTS {
-        let at = c as usize;
-        let cpu = m.cpus[at];
-        ok = ok & idle_ok(cpu);
-        c += 1;
-    }
-    ok
 }
 
 fn in_range(priority: i32) -> bool
@@ -359,20 +297,6 @@ fn priority_ok(thread: Thread) -> bool
     in_range(priority)
 }
 
-fn priorities_ok(m: Machine) -> bool
-    ensures { λ r. ⌜ r ≡ allBelow (priorityOk m) threadCount ⌝ }
-{
-    let mut ok = true;
-    let mut t: u32 = 0;
-    while t < THREADS {
-        let at = t as usize;
-        let thread = m.threads[at];
-        ok = ok & priority_ok(thread);
-        t += 1;
-    }
-    ok
-}
-
 // Under pin-only each mask has one bit.
 fn mask_ok(pin_only: bool, thread: Thread) -> bool
     ensures { λ r. ⌜ r ≡ maskBy «pin_only» thread ⌝ }
@@ -383,15 +307,37 @@ fn mask_ok(pin_only: bool, thread: Thread) -> bool
     cpu_mask::validate_pin_mask(thread.mask)
 }
 
-fn masks_ok(m: Machine) -> bool
-    ensures { λ r. ⌜ r ≡ allBelow (maskOk m) threadCount ⌝ }
+// Slot, current thread and idle priority of every CPU.
+fn cpus_ok(m: Machine) -> bool
+    ensures { λ r. ⌜ r ≡ allBelow (cpuOk m) cpuSlots ⌝ }
+{
+    let mut ok = true;
+    let mut c: u32 = 0;
+    let threads = m.threads;
+    while c < CPU_SLOTS {
+        let at = c as usize;
+        let cpu = m.cpus[at];
+        ok = ok & slot_ok(m.n, CpuId(c), cpu) & current_ok(threads, CpuId(c), cpu) & idle_ok(cpu);
+        c += 1;
+    }
+    ok
+}
+
+// Place, priority and mask of every thread.
+fn threads_ok(m: Machine) -> bool
+    requires { ⌜ m .n ≤ cpuSlots ⌝ }
+    ensures { λ r. ⌜ r ≡ allBelow (threadOk m) threadCount ⌝ }
 {
     let mut ok = true;
     let mut t: u32 = 0;
+    let cpus = m.cpus;
     while t < THREADS {
         let at = t as usize;
         let thread = m.threads[at];
-        ok = ok & mask_ok(m.pin_only, thread);
+        ok = ok
+            & place_ok(m.n, cpus, ThreadId(t), thread)
+            & priority_ok(thread)
+            & mask_ok(m.pin_only, thread);
         t += 1;
     }
     ok
@@ -404,12 +350,5 @@ pub fn well_formed(m: Machine) -> bool
     if !size_ok(m) {
         return false;
     }
-    slots_ok(m)
-        & locks_ok(m)
-        & holds_ok(m)
-        & currents_ok(m)
-        & places_ok(m)
-        & idles_ok(m)
-        & priorities_ok(m)
-        & masks_ok(m)
+    cpus_ok(m) & locks_ok(m) & holds_ok(m) & threads_ok(m)
 }

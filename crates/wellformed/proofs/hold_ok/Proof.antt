@@ -1,8 +1,9 @@
 -- The loop's invariant: `sum` is the sum over the locks below `l`, at most 2 ^ 32 - 1 each. The measure is what is left. Assumes nothing.
 use Prim.Native.Nat.{_≤_, _-_, _*_}
-use mathlib.Core.Path.{_≡_}
+use mathlib.Core.Path.{_≡_, ap, _∙_}
 use borrow.Author.Needs.{needs}
 use native.Mathlib.Omega.{arith}
+use lib.Dec.{eqb}
 use Rattle.wellformed.proofs.Tests.{sum-more}
 use Rattle.wellformed.specs.WellFormed.{sumBelow, depthFor}
 use Rattle.machine.specs.State.{lockCount, lockAt}
@@ -59,7 +60,10 @@ cast-result : tie.Need-cast-result Inv-loop μ-loop
 cast-result c = search needs
 
 returns : tie.Need-returns Inv-loop μ-loop
-returns c = let all : c .before .before .before .before .loop .l ≡ lockCount = omega arith in cc
+returns c =
+    let loop = c .before .before .before .before .loop in
+    let all : loop .l ≡ lockCount = omega arith in
+    ap (eqb _) (loop .inv .2 ∙ ap (sumBelow _) all)
 
 pub hold-ok-spec : {M : Type 1} → statement M
 hold-ok-spec =

@@ -1,19 +1,19 @@
--- The loop's invariant: `ok` says whether the test holds below `c`. The measure is what is left. Assumes nothing.
+-- The loop's invariant: `ok` says whether the three tests hold below `c`. The measure is what is left. Assumes nothing.
 use Prim.Native.Nat.{_≤_, _-_}
-use mathlib.Core.Path.{_≡_}
+use mathlib.Core.Path.{_≡_, refl}
 use borrow.Author.Needs.{needs}
 use native.Mathlib.Omega.{arith}
-use Rattle.wellformed.proofs.Tests.{all-more}
-use Rattle.wellformed.specs.WellFormed.{allBelow, slotOk}
+use Rattle.wellformed.proofs.Tests.{turn}
+use Rattle.wellformed.specs.WellFormed.{allBelow, cpuOk}
 use Rattle.machine.specs.State.{cpuSlots}
-use Rattle.wellformed.proofs.slots_ok.Statement.{statement}
-use Rattle.wellformed.proofs.slots_ok.Tie as tie
+use Rattle.wellformed.proofs.cpus_ok.Statement.{statement}
+use Rattle.wellformed.proofs.cpus_ok.Tie as tie
 
 abbrev Inv-loop : tie.InvT-loop
-Inv-loop m ok₀ c₀ ok c = (c ≤ cpuSlots) × (allBelow (slotOk m) c ≡ ok)
+Inv-loop m ok₀ c₀ threads ok c = (c ≤ cpuSlots) × (allBelow (cpuOk m) c ≡ ok)
 
 abbrev μ-loop : tie.MeasureT-loop
-μ-loop m ok₀ c₀ ok c = cpuSlots - c
+μ-loop m ok₀ c₀ threads ok c = cpuSlots - c
 
 loop-holds : tie.Need-loop-holds Inv-loop μ-loop
 unfolding allBelow
@@ -31,6 +31,12 @@ element-copy-out-cpu c = search needs
 slot-ok-requires : tie.Need-slot-ok-requires Inv-loop μ-loop
 slot-ok-requires c κs = search needs
 
+current-ok-requires : tie.Need-current-ok-requires Inv-loop μ-loop
+current-ok-requires c κs = search needs
+
+idle-ok-requires : tie.Need-idle-ok-requires Inv-loop μ-loop
+idle-ok-requires c κs = search needs
+
 add-c : tie.Need-add-c Inv-loop μ-loop
 add-c c = search needs
 
@@ -38,13 +44,15 @@ loop-less : tie.Need-loop-less Inv-loop μ-loop
 loop-less c = search needs
 
 loop-again : tie.Need-loop-again Inv-loop μ-loop
-loop-again c = (search needs, cc (all-more _ _))
+loop-again c =
+    let below = c .before .before .before .before .before .loop .inv .1 in
+    (search needs, turn _ _ below (c .before .before .slot-ok .ensures) (c .before .current-ok .ensures) (c .idle-ok .ensures) refl)
 
 returns : tie.Need-returns Inv-loop μ-loop
 returns c = let all : c .before .loop .c ≡ cpuSlots = omega arith in cc
 
-pub slots-ok-spec : {M : Type 1} → statement M
-slots-ok-spec =
+pub cpus-ok-spec : {M : Type 1} → statement M
+cpus-ok-spec =
     tie.close
     (tie.spec
     Inv-loop
@@ -54,6 +62,8 @@ slots-ok-spec =
     mul-cpu
     element-copy-out-cpu
     slot-ok-requires
+    current-ok-requires
+    idle-ok-requires
     add-c
     loop-less
     loop-again

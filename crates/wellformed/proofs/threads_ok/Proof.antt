@@ -1,19 +1,19 @@
--- The loop's invariant: `ok` says whether the test holds below `t`. The measure is what is left. Assumes nothing.
+-- The loop's invariant: `ok` says whether the three tests hold below `t`. The measure is what is left. Assumes nothing.
 use Prim.Native.Nat.{_≤_, _-_}
-use mathlib.Core.Path.{_≡_}
+use mathlib.Core.Path.{_≡_, refl}
 use borrow.Author.Needs.{needs}
 use native.Mathlib.Omega.{arith}
-use Rattle.wellformed.proofs.Tests.{all-more}
-use Rattle.wellformed.specs.WellFormed.{allBelow, maskOk}
+use Rattle.wellformed.proofs.Tests.{turn}
+use Rattle.wellformed.specs.WellFormed.{allBelow, threadOk}
 use Rattle.machine.specs.State.{threadCount}
-use Rattle.wellformed.proofs.masks_ok.Statement.{statement}
-use Rattle.wellformed.proofs.masks_ok.Tie as tie
+use Rattle.wellformed.proofs.threads_ok.Statement.{statement}
+use Rattle.wellformed.proofs.threads_ok.Tie as tie
 
 abbrev Inv-loop : tie.InvT-loop
-Inv-loop m ok₀ t₀ ok t = (t ≤ threadCount) × (allBelow (maskOk m) t ≡ ok)
+Inv-loop m ok₀ t₀ cpus ok t = (t ≤ threadCount) × (allBelow (threadOk m) t ≡ ok)
 
 abbrev μ-loop : tie.MeasureT-loop
-μ-loop m ok₀ t₀ ok t = threadCount - t
+μ-loop m ok₀ t₀ cpus ok t = threadCount - t
 
 loop-holds : tie.Need-loop-holds Inv-loop μ-loop
 unfolding allBelow
@@ -28,6 +28,12 @@ mul-thread c = search needs
 element-copy-out-thread : tie.Need-element-copy-out-thread Inv-loop μ-loop
 element-copy-out-thread c = search needs
 
+place-ok-requires : tie.Need-place-ok-requires Inv-loop μ-loop
+place-ok-requires c κs = search needs
+
+priority-ok-requires : tie.Need-priority-ok-requires Inv-loop μ-loop
+priority-ok-requires c κs = search needs
+
 mask-ok-requires : tie.Need-mask-ok-requires Inv-loop μ-loop
 mask-ok-requires c κs = search needs
 
@@ -38,13 +44,15 @@ loop-less : tie.Need-loop-less Inv-loop μ-loop
 loop-less c = search needs
 
 loop-again : tie.Need-loop-again Inv-loop μ-loop
-loop-again c = (search needs, cc (all-more _ _))
+loop-again c =
+    let below = c .before .before .before .before .before .loop .inv .1 in
+    (search needs, turn _ _ below (c .before .before .place-ok .ensures) (c .before .priority-ok .ensures) (c .mask-ok .ensures) refl)
 
 returns : tie.Need-returns Inv-loop μ-loop
 returns c = let all : c .before .loop .t ≡ threadCount = omega arith in cc
 
-pub masks-ok-spec : {M : Type 1} → statement M
-masks-ok-spec =
+pub threads-ok-spec : {M : Type 1} → statement M
+threads-ok-spec =
     tie.close
     (tie.spec
     Inv-loop
@@ -53,6 +61,8 @@ masks-ok-spec =
     cast-at
     mul-thread
     element-copy-out-thread
+    place-ok-requires
+    priority-ok-requires
     mask-ok-requires
     add-t
     loop-less
