@@ -129,6 +129,10 @@ fn inputs() -> Vec<Input> {
     made
 }
 
+/// Lent room at the start of a cache line, so that no run of the benchmark has it across two.
+#[repr(align(64))]
+struct Room([u8; ROOM]);
+
 /// Compares both sides on every input, and prints the best time of each in ns a call.
 fn row(name: &str, inputs: &[Input], ours: impl Fn(&Input, *mut u8) -> i32, theirs: impl Fn(&Input, *mut u8) -> i32) -> f64 {
     for input in inputs {
@@ -136,11 +140,11 @@ fn row(name: &str, inputs: &[Input], ours: impl Fn(&Input, *mut u8) -> i32, thei
         assert_eq!(ours(input, a.as_mut_ptr()), theirs(input, b.as_mut_ptr()), "the codes of {name} differ");
         assert_eq!(a, b, "the values of {name} differ");
     }
-    let (mut best, mut room) = ([f64::MAX; 2], [0x55; ROOM]);
+    let (mut best, mut room) = ([f64::MAX; 2], Room([0x55; ROOM]));
     let mut time = |best: &mut f64, call: &dyn Fn(&Input, *mut u8) -> i32| {
         let start = Instant::now();
         for input in inputs {
-            black_box(call(black_box(input), black_box(room.as_mut_ptr())));
+            black_box(call(black_box(input), black_box(room.0.as_mut_ptr())));
         }
         *best = best.min(start.elapsed().as_secs_f64() * 1e9 / inputs.len() as f64);
     };
