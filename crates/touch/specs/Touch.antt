@@ -1,5 +1,5 @@
 -- A request's effect on what the code loads for it: a CPU and a lock if the request is for a lock, else a CPU and a thread. What the request
--- does not name comes back as it was. (proofs/Turns.antt: storing them is the operation.)
+-- does not name comes back as it was. (runner/proofs/Turns.antt: storing them is the operation.)
 use Prim.Native.Nat.{ℕ}
 use mathlib.Core.Bool.{Bool, true, false, cond}
 use mathlib.Core.List.{List}
