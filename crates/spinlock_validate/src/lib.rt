@@ -40,7 +40,8 @@ pub enum Decoded {
     BadWord,
 }
 
-// Whether the CPU fits a tag, and the thread word leaves room for it.
+// Whether the CPU fits a tag, and the thread word leaves room for it. That the thread word is a multiple of 4 is asked of the sum with the CPU:
+// a compiler that knew it would take the owner word apart and write it byte by byte (docs/PERFORMANCE.md).
 fn taggable(cpu: u32, thread: u64) -> bool
     ensures { λ r. ⌜ r ≡ Tag·taggable tagBits cpu thread ⌝ }
 {
@@ -50,7 +51,8 @@ fn taggable(cpu: u32, thread: u64) -> bool
     if thread == 0 {
         return false;
     }
-    thread % THREAD_ALIGN == 0
+    let low = (thread % THREAD_ALIGN) as u32;
+    (low + cpu) % TAG_CPUS == cpu
 }
 
 // The word of a thread on a CPU.

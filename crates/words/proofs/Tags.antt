@@ -1,9 +1,10 @@
 -- Laws of tags, over the tag's width k: the word gives back the CPU and the thread that made it, distinct pairs make distinct words, a word
 -- is never 0 and at least 2 ^ k, and whatever is at least 2 ^ k was made by its own CPU and thread. Assumes nothing.
 use mathlib.Core.Path.{_≡_, sym, ap, _∙_}
+use mathlib.Core.Logic.{_⊎_, inl, inr}
 use mathlib.Core.Bool.{true, not}
 use Prim.Native.Nat.{ℕ, _+_, _-_, _*_, _/_, _%_, _^_, _≤_, _<_}
-use native.Mathlib.Nat.{div-add-mod', mod-eq-of-lt, mod-lt, mod-le, mul-mod-left, pos-of-ne-zero, lt-of-not-le, le-of-suc-le-suc}
+use native.Mathlib.Nat.{div-add-mod', mod-eq-of-lt, mod-eq-sub-mod, mod-lt, mod-le, mul-mod-left, pos-of-ne-zero, lt-of-not-le, le-of-suc-le-suc}
 use native.Mathlib.Omega.{arith}
 use lib.Bits.{bitAnd, bitOr, or-shifted, and-mask, and-high}
 use lib.Dec.{eqb, ltb}
@@ -11,7 +12,7 @@ use lib.Pow.{pow-pos, low, shr-mod}
 use borrow.Author.Tests.{ltb-true, eqb-true, eqb-false, not-true, lt-ltb, eq-eqb, ne-eqb}
 use Rattle.words.specs.Bit.{bitNot}
 use Rattle.words.specs.Tag.{taggable, wordOf, cpuOf, threadOf}
-use Rattle.words.proofs.Choice.{and-left, and-right}
+use Rattle.words.proofs.Choice.{below-or, same-or, and-left, and-right}
 
 -- What `taggable` tests.
 pub record Taggable (k cpu thread : ℕ) : Type 0 where
@@ -53,6 +54,22 @@ module _ (k cpu thread : ℕ) (t : Taggable k cpu thread) where
   -- The sum is the `|` of the two: they have no bit in common.
   pub word-or : bitOr thread cpu ≡ wordOf cpu thread
   word-or = ap (λ (n : ℕ). bitOr n cpu) (sym whole) ∙ or-shifted (thread / 2 ^ k) k cpu (t .below) ∙ ap (λ (n : ℕ). n + cpu) whole
+
+-- A tag comes back from a sum exactly if what was added to it, below 2 ^ k as well, is 0.
+pub tag-of-sum : (k part cpu : ℕ) → part < 2 ^ k → cpu < 2 ^ k → eqb ((part + cpu) % 2 ^ k) cpu ≡ eqb part 0
+tag-of-sum k part cpu small below = by (same-or part 0)
+  where
+    moved : (part ≡ 0 → ⊥) → (part + cpu < 2 ^ k) ⊎ (2 ^ k ≤ part + cpu) → (part + cpu) % 2 ^ k ≡ cpu → ⊥
+    moved some (inl fits) e = some (omega (arith, mod-eq-of-lt fits))
+    moved some (inr past) e =
+        let rest : part + cpu - 2 ^ k < 2 ^ k = omega arith in
+        omega (arith, mod-eq-sub-mod past, mod-eq-of-lt rest)
+
+    by : (part ≡ 0) ⊎ (part ≡ 0 → ⊥) → eqb ((part + cpu) % 2 ^ k) cpu ≡ eqb part 0
+    by (inl none) =
+        let same : part + cpu ≡ cpu = omega arith in
+        eq-eqb ((part + cpu) % 2 ^ k) cpu (ap (λ (n : ℕ). n % 2 ^ k) same ∙ mod-eq-of-lt below) ∙ sym (eq-eqb part 0 none)
+    by (inr some) = ne-eqb ((part + cpu) % 2 ^ k) cpu (moved some (below-or (part + cpu) (2 ^ k))) ∙ sym (ne-eqb part 0 some)
 
 -- Distinct pairs make distinct words.
 pub word-injective : (k c c′ t t′ : ℕ) → Taggable k c t → Taggable k c′ t′ → wordOf c t ≡ wordOf c′ t′ → (c ≡ c′) × (t ≡ t′)
