@@ -5,7 +5,8 @@
 ghost use mathlib.Core.Path.{_≡_};
 ghost use Prim.Native.Nat.{_+_, _*_, _≤_};
 ghost use lib.ListN.{length};
-ghost use Rattle.ipi.specs.Ipi.{ipiSays};
+ghost use Rattle.words.specs.Bit.{bitsOf};
+ghost use Rattle.ipi.specs.Ipi.{ipiSays, eligible};
 ghost use Rattle.cpu_bytes.specs.Cpus.{
   cpuOfBytes,
   cpusOfBytes,
@@ -32,41 +33,41 @@ fn cpu_at(cpus: &[u8], at: usize) -> CpuRecord
     }
 }
 
-// The CPUs in their places, and nothing in the places behind them.
-fn cpus_of_bytes(cpus: &[u8], num: usize) -> [CpuRecord; 16]
-    requires { ⌜ (num ≤ 16) × (length (now cpus) ≡ 5 * num) ⌝ }
-    ensures { λ r. ⌜ r ≡ cpusOfBytes (now (cpus .entry)) num ⌝ }
-{
-    let none = CpuRecord {
-        active: false,
-        priority: 0,
-    };
-    let mut records = [none; 16];
-    let mut i: usize = 0;
-    while i < num {
-        let cpu = cpu_at(cpus, CPU_BYTES * i);
-        records[i] = cpu;
-        i += 1;
-    }
-    records
+// What a pass over the bytes finds: whether each active byte is 0 or 1, and the bits of the CPUs that get the interrupt.
+struct Passed {
+    valid: bool,
+    mask: u32,
 }
 
-// Whether each active byte is 0 or 1.
-fn active_bytes(cpus: &[u8], num: usize) -> bool
-    requires { ⌜ (num ≤ 16) × (length (now cpus) ≡ 5 * num) ⌝ }
-    ensures { λ r. ⌜ r ≡ activeBytes (now (cpus .entry)) num ⌝ }
+// One pass over the bytes, with no array of records: to write sixteen and read them again costs more than the rule.
+fn pass(
+    current_cpu: u32,
+    target_prio: i32,
+    target_cpu_mask: u32,
+    cpus: &[u8],
+    num_cpus: u32,
+) -> Passed
+    requires { ⌜ («num_cpus» ≤ 16) × (length (now cpus) ≡ 5 * «num_cpus») ⌝ }
+    ensures valid { λ r. ⌜ r .valid ≡ activeBytes (now (cpus .entry)) «num_cpus» ⌝ }
+    ensures mask { λ r. ⌜ r .mask ≡ bitsOf (eligible «current_cpu» «target_prio» «target_cpu_mask» (cpusOfBytes (now (cpus .entry)) «num_cpus»)) «num_cpus» ⌝ }
 {
-    let mut all = true;
-    let mut i: usize = 0;
-    while i < num {
-        let active = cpus[CPU_BYTES * i];
-        all = all & (active <= 1);
-        i += 1;
+    let mut valid = true;
+    let mut mask: u32 = 0;
+    let mut idx: u32 = 0;
+    while idx < num_cpus {
+        let at = CPU_BYTES * (idx as usize);
+        let active = cpus[at];
+        valid = valid & (active <= 1);
+        let cpu = cpu_at(cpus, at);
+        if ipi::gets_ipi(current_cpu, target_prio, target_cpu_mask, idx, cpu) {
+            mask = mask | (1u32 << idx);
+        }
+        idx += 1;
     }
-    all
+    Passed { valid, mask }
 }
 
-// The mask of the CPUs to interrupt, from bytes. More than sixteen CPUs are refused first, so that five times their number is small.
+// The mask of the CPUs to interrupt, from bytes. The counts are tested first, so that five times the number of CPUs is small.
 pub fn ipi_mask_of_bytes(
     current_cpu: u32,
     target_prio: i32,
@@ -81,23 +82,18 @@ pub fn ipi_mask_of_bytes(
         code: Code::Einval,
         mask: 0,
     };
-    if num_cpus > ipi::MAX_IPI_CPUS {
+    if !ipi::counts_fit(current_cpu, num_cpus, max_cpus) {
         return refused;
     }
-    let num = num_cpus as usize;
-    if cpus.len() != CPU_BYTES * num {
+    if cpus.len() != CPU_BYTES * (num_cpus as usize) {
         return refused;
     }
-    if !active_bytes(cpus, num) {
+    let passed = pass(current_cpu, target_prio, target_cpu_mask, cpus, num_cpus);
+    if !passed.valid {
         return refused;
     }
-    let records = cpus_of_bytes(cpus, num);
-    ipi::compute_ipi_mask(
-        current_cpu,
-        target_prio,
-        target_cpu_mask,
-        records,
-        num_cpus,
-        max_cpus,
-    )
+    IpiMask {
+        code: Code::Ok,
+        mask: passed.mask,
+    }
 }

@@ -17,7 +17,7 @@ use Rattle.error.proofs.Answers.{same-value, refused-not-done}
 use Rattle.words.specs.Bit.{bit, bitsOf}
 use Rattle.words.proofs.Choice.{bool-ind, and-left, and-right}
 use Rattle.words.proofs.BitsOf.{bitsOf-lt, bit-bitsOf}
-use Rattle.ipi.specs.Ipi.{maxIpiCpus, noCpu, gets, eligible, computeIpiMask, validateIpiMask}
+use Rattle.ipi.specs.Ipi.{maxIpiCpus, noCpu, gets, eligible, countsFit, computeIpiMask, validateIpiMask}
 use Rattle.ipi.specs.declared.CpuRecord.{CpuRecord}
 
 -- What the call asks of its numbers.
@@ -25,6 +25,15 @@ pub record InRange (current num max : ℕ) : Type 0 where
   pub few : max ≤ maxIpiCpus
   pub within : num ≤ max
   pub present : current < num
+
+pub counts-say : (current num max : ℕ) → countsFit current num max ≡ true → InRange current num max
+counts-say current num max good =
+    let rest = and-right (leb max maxIpiCpus) _ good in
+    record {
+      few = leb-true max maxIpiCpus (and-left (leb max maxIpiCpus) _ good);
+      within = leb-true num max (and-left (leb num max) _ rest);
+      present = ltb-true current num (and-right (leb num max) _ rest);
+    }
 
 module _ (current : ℕ) (target : ℤ) (mask : ℕ) (cpus : List CpuRecord) (num max : ℕ) where
   -- It must succeed in that range, and the answer is then this mask.
@@ -40,14 +49,7 @@ module _ (current : ℕ) (target : ℤ) (mask : ℕ) (cpus : List CpuRecord) (nu
   ipi-only-then m =
       bool-ind
       (λ b. (b ≡ true → InRange current num max) → cond b (answer OK all) (answer EINVAL 0) ≡ answer OK m → InRange current num max × (m ≡ all))
-      (leb max maxIpiCpus && (leb num max && ltb current num)) (λ _ says e. (says refl, sym (same-value e))) (λ _ _ e. absurd (refused-not-done 21 e))
-      (λ good.
-      let rest = and-right (leb max maxIpiCpus) _ good in
-      record {
-        few = leb-true max maxIpiCpus (and-left (leb max maxIpiCpus) _ good);
-        within = leb-true num max (and-left (leb num max) _ rest);
-        present = ltb-true current num (and-right (leb num max) _ rest);
-      })
+      (countsFit current num max) (λ _ says e. (says refl, sym (same-value e))) (λ _ _ e. absurd (refused-not-done 21 e)) (counts-say current num max)
     where
       all : ℕ
       all = bitsOf (eligible current target mask cpus) num

@@ -31,10 +31,14 @@ gets current target mask i cpu = not (eqb i current) && (cpu .active && (bit i m
 abbrev pub eligible : ℕ → ℤ → ℕ → List CpuRecord → ℕ → Bool
 eligible current target mask cpus i = gets current target mask i (getD cpus i noCpu)
 
+-- Max is at most 16, num at most max, and current below num.
+abbrev pub countsFit : ℕ → ℕ → ℕ → Bool
+countsFit current num max = leb max maxIpiCpus && (leb num max && ltb current num)
+
 -- EINVAL exactly if max > 16, num > max or current >= num. Bit i is set exactly when i is below num and gets the interrupt.
 unfoldable pub computeIpiMask : ℕ → ℤ → ℕ → List CpuRecord → ℕ → ℕ → Answer ℕ
 computeIpiMask current target mask cpus num max =
-    cond (leb max maxIpiCpus && (leb num max && ltb current num)) (answer OK (bitsOf (eligible current target mask cpus) num)) (answer EINVAL 0)
+    cond (countsFit current num max) (answer OK (bitsOf (eligible current target mask cpus) num)) (answer EINVAL 0)
 
 -- EINVAL unless current < max <= 16; yes exactly if the current bit is clear and the mask is below 2 to the power max.
 unfoldable pub validateIpiMask : ℕ → ℕ → ℕ → Answer Bool

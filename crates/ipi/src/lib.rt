@@ -4,15 +4,18 @@
 // The two slices of upstream are one array of sixteen CPU records by value; records from num_cpus on are not looked at. Upstream promises
 // nothing of the mask; here its value is exact, and proofs/Laws.antt says of every bit when it is set. A lower number is more important.
 ghost use mathlib.Core.Path.{_≡_};
-ghost use Prim.Native.Nat.{_≤_, _<_};
+ghost use Prim.Native.Nat.{_≤_};
 ghost use Rattle.error.specs.Answer.{yesNoSays};
 ghost use Rattle.words.specs.Bit.{bitsOf};
-ghost use Rattle.ipi.specs.Ipi.{gets, eligible, ipiSays, computeIpiMask, validateIpiMask};
+ghost use Rattle.ipi.specs.Ipi.{gets, eligible, countsFit, ipiSays, computeIpiMask, validateIpiMask};
 use error::Code;
 use error::YesNo;
 
 // Upstream's MAX_CPUS of this file: how many CPUs an interrupt mask covers.
 pub const MAX_IPI_CPUS: u32 = 16;
+
+// How many CPUs an affinity mask has bits for.
+const MASK_BITS: u32 = 32;
 
 // One CPU: whether it is up, and the priority of what it runs.
 pub struct CpuRecord {
@@ -26,30 +29,23 @@ pub struct IpiMask {
     pub mask: u32,
 }
 
-// Whether the CPU with this record gets the interrupt.
-fn gets_ipi(
+// Whether the CPU with this record gets the interrupt. None past the mask's bits does.
+pub fn gets_ipi(
     current_cpu: u32,
     target_prio: i32,
     target_cpu_mask: u32,
     idx: u32,
     cpu: CpuRecord,
 ) -> bool
-    requires { ⌜ idx < 32 ⌝ }
     ensures { λ r. ⌜ r ≡ gets «current_cpu» «target_prio» «target_cpu_mask» idx cpu ⌝ }
 {
-    if idx == current_cpu {
+    if idx >= MASK_BITS {
         return false;
     }
     let active = cpu.active;
-    if !active {
-        return false;
-    }
-    let bit = 1u32 << idx;
-    if target_cpu_mask & bit == 0 {
-        return false;
-    }
     let priority = cpu.priority;
-    target_prio < priority
+    let allowed = target_cpu_mask & (1u32 << idx) != 0;
+    (idx != current_cpu) & (active & (allowed & (target_prio < priority)))
 }
 
 // The bits of the CPUs below num_cpus that get the interrupt.
@@ -76,6 +72,13 @@ fn eligible_cpus(
     mask
 }
 
+// Whether there are at most so many CPUs as are allowed, and the current one is among them.
+pub fn counts_fit(current_cpu: u32, num_cpus: u32, max_cpus: u32) -> bool
+    ensures { λ r. ⌜ r ≡ countsFit «current_cpu» «num_cpus» «max_cpus» ⌝ }
+{
+    (max_cpus <= MAX_IPI_CPUS) & ((num_cpus <= max_cpus) & (current_cpu < num_cpus))
+}
+
 // The mask of the CPUs to interrupt for a thread of this priority and affinity.
 pub fn compute_ipi_mask(
     current_cpu: u32,
@@ -87,19 +90,7 @@ pub fn compute_ipi_mask(
 ) -> IpiMask
     ensures { λ r. ⌜ ipiSays r ≡ computeIpiMask «current_cpu» «target_prio» «target_cpu_mask» cpus «num_cpus» «max_cpus» ⌝ }
 {
-    if max_cpus > MAX_IPI_CPUS {
-        return IpiMask {
-            code: Code::Einval,
-            mask: 0,
-        };
-    }
-    if num_cpus > max_cpus {
-        return IpiMask {
-            code: Code::Einval,
-            mask: 0,
-        };
-    }
-    if current_cpu >= num_cpus {
+    if !counts_fit(current_cpu, num_cpus, max_cpus) {
         return IpiMask {
             code: Code::Einval,
             mask: 0,

@@ -61,6 +61,10 @@ bit-bitsOf f k i = go (below-or i k)
 pub bitsOf-only : (f : ℕ → Bool) (k n : ℕ) → n < 2 ^ k → ((i : ℕ) → i < k → bit i n ≡ f i) → n ≡ bitsOf f k
 bitsOf-only f k n h e = bit-ext k n (bitsOf f k) h (bitsOf-lt f k) (λ i l. e i l ∙ sym (within f k i l))
 
+-- Tests that agree below k make the same number.
+pub bitsOf-same : (f g : ℕ → Bool) (k : ℕ) → ((i : ℕ) → i < k → f i ≡ g i) → bitsOf f k ≡ bitsOf g k
+bitsOf-same f g k e = bitsOf-only g k (bitsOf f k) (bitsOf-lt f k) (λ i l. within f k i l ∙ e i l)
+
 -- A turn of a loop that collects bits, at a width of w bits: the bit is put in, or left out.
 pub put-bit : (w : ℕ) (f : ℕ → Bool) (k mask : ℕ) {next : ℕ} → k < w → mask ≡ bitsOf f k → f k ≡ true
     → next ≡ bitOr mask ((1 * 2 ^ k) % 2 ^ w) → next ≡ bitsOf f (k + 1)

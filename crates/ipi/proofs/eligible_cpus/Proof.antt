@@ -34,7 +34,7 @@ array-copy-out-cpu : tie.Need-array-copy-out-cpu Inv-loop μ-loop
 array-copy-out-cpu c = omega arith
 
 gets-ipi-requires : tie.Need-gets-ipi-requires Inv-loop μ-loop
-gets-ipi-requires c κs = omega arith
+gets-ipi-requires c κs = search needs
 
 shl-mask : tie.Need-shl-mask Inv-loop μ-loop
 shl-mask c = omega arith
