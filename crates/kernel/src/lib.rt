@@ -19,7 +19,7 @@ ghost use Rattle.kernel.specs.Calls.{
   ipiMask,
   ipiMaskTest,
 };
-ghost use Rattle.kernel.specs.Run.{runCode, runRoom};
+ghost use Rattle.setup_run.specs.Run.{runCode, runRoom};
 use cpu_mask::CpuMaskResult;
 use cpu_mask::PinMask;
 use error::Code;
@@ -200,13 +200,6 @@ pub extern "C" fn hubcrackle_run(setup: u8, log: &[u8], out: &mut [u8]) -> i32
     ensures code { λ r. ⌜ r ≡ runCode setup (now (log .entry)) (length (now (out .entry))) ⌝ }
     ensures room { λ _. ⌜ now (out .exit) ≡ runRoom setup (now (log .entry)) (now (out .entry)) ⌝ }
 {
-    let made = machine::setup(setup);
-    let refused = made.code;
-    if !error::is_ok(refused) {
-        return error::number(refused);
-    }
-    let machine = made.machine;
-    let ran = runner::run(machine, log, out);
-    let code = ran.code;
+    let code = setup_run::run_from_setup(setup, log, out);
     error::number(code)
 }

@@ -1,4 +1,4 @@
--- 01, "What must change shape": the runner from setup byte and lent bytes, for the C kernel. The setup byte is judged first; a refusal writes
+-- 01, "What must change shape": the runner from setup byte and lent bytes. The setup byte is judged first; a refusal writes
 -- nothing.
 use Prim.Native.Nat.{ℕ}
 use mathlib.Core.Bool.{cond}

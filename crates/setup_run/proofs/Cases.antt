@@ -12,7 +12,7 @@ use Rattle.machine.specs.declared.Machine.{Machine}
 use Rattle.machine.specs.declared.Made.{Made}
 use Rattle.runner.specs.Run.{ranSays, ran, ranRoom}
 use Rattle.runner.specs.declared.Ran.{Ran}
-use Rattle.kernel.specs.Run.{runCode, runRoom}
+use Rattle.setup_run.specs.Run.{runCode, runRoom}
 
 -- What the contract says of a code and a room.
 abbrev pub Runs : ℕ → List ℕ → List ℕ → ℤ → List ℕ → Type 0
