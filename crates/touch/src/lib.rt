@@ -113,15 +113,24 @@ pub fn on_lock(request: Request, cpu: Cpu, lock: Lock) -> LockTouched
     let hold = cpu.hold;
     match request {
         Request::Acquire(c, _) => {
-            touch_lock(rules::lock_op(Operation::Acquire, c, run, lock, hold), cpu)
+            touch_lock(
+                lock_rules::lock_op(Operation::Acquire, c, run, lock, hold),
+                cpu,
+            )
         }
         Request::Nested(c, _) => {
-            touch_lock(rules::lock_op(Operation::Nested, c, run, lock, hold), cpu)
+            touch_lock(
+                lock_rules::lock_op(Operation::Nested, c, run, lock, hold),
+                cpu,
+            )
         }
         Request::Release(c, _) => {
-            touch_lock(rules::lock_op(Operation::Release, c, run, lock, hold), cpu)
+            touch_lock(
+                lock_rules::lock_op(Operation::Release, c, run, lock, hold),
+                cpu,
+            )
         }
-        Request::Owner(_) => leave_lock(rules::owner(lock), cpu, lock),
+        Request::Owner(_) => leave_lock(lock_rules::owner(lock), cpu, lock),
         _ => leave_lock(malformed(), cpu, lock),
     }
 }
@@ -196,7 +205,7 @@ fn ipi_of(c: CpuId, n: u32, cpus: [Cpu; 4], thread: Thread) -> ValueOut
     let r1 = k1.run;
     let r2 = k2.run;
     let r3 = k3.run;
-    rules::ipi(c, n, r0, r1, r2, r3, thread)
+    thread_rules::ipi(c, n, r0, r1, r2, r3, thread)
 }
 
 // What a record that fails the form test comes to.
@@ -221,17 +230,17 @@ pub fn on_seat(
     let run = cpu.run;
     let hold = cpu.hold;
     match request {
-        Request::Up(_) => touch_run(rules::up(run), cpu, thread),
-        Request::Down(_) => touch_run(rules::down(run), cpu, thread),
-        Request::Put(c, t) => touch_seat(rules::put(c, t, run, thread), cpu),
-        Request::Take(_, t) => touch_seat(rules::take(t, hold, run, thread), cpu),
+        Request::Up(_) => touch_run(cpu_rules::up(run), cpu, thread),
+        Request::Down(_) => touch_run(cpu_rules::down(run), cpu, thread),
+        Request::Put(c, t) => touch_seat(cpu_rules::put(c, t, run, thread), cpu),
+        Request::Take(_, t) => touch_seat(cpu_rules::take(t, hold, run, thread), cpu),
         Request::Mask {
             thread: _,
             enable,
             disable,
-        } => touch_thread(rules::mask(enable, disable, pin_only, thread), cpu),
-        Request::Pin(_, c) => touch_thread(rules::pin(c, pin_only, thread), cpu),
-        Request::Priority(_, a) => touch_thread(rules::priority(a, thread), cpu),
+        } => touch_thread(thread_rules::mask(enable, disable, pin_only, thread), cpu),
+        Request::Pin(_, c) => touch_thread(thread_rules::pin(c, pin_only, thread), cpu),
+        Request::Priority(_, a) => touch_thread(thread_rules::priority(a, thread), cpu),
         Request::Ipi(c, _) => leave_seat(ipi_of(c, n, cpus, thread), cpu, thread),
         _ => leave_seat(malformed(), cpu, thread),
     }

@@ -1,0 +1,47 @@
+-- Each return is the rule's case that the tests on the way name. Assumes nothing.
+use borrow.Author.Needs.{needs}
+use borrow.Author.Tests.{not-true, not-false}
+use mathlib.Core.Path.{sym, ap₂, _∙_}
+use mathlib.Core.Bool.{Bool, _||_}
+use mir.Syntax.{w32}
+use mir.ValLaws.{toZ-ofZ}
+use Rattle.rules.specs.Rules.{put, priority}
+use Rattle.cpu_rules.proofs.put.Statement.{statement}
+use Rattle.cpu_rules.proofs.put.Tie as tie
+
+returns : tie.Need-returns
+unfolding put
+returns c = simp (not-true (c .before .before .args .run .active) (c .if1 .taken))
+
+is-occupied-requires : tie.Need-is-occupied-requires
+is-occupied-requires c κs = search needs
+
+is-placed-requires : tie.Need-is-placed-requires
+is-placed-requires c κs = search needs
+
+returns-2 : tie.Need-returns-2
+unfolding put
+returns-2 c = simp (not-false (c .before .before .before .before .before .args .run .active) (c .before .before .before .if1 .left), ap₂ (λ (x y : Bool). x || y) (sym (c .before .before .is-occupied .ensures)) (sym (c .before .is-placed .ensures)) ∙ c .if2 .taken)
+
+is-allowed-requires : tie.Need-is-allowed-requires
+is-allowed-requires c κs = search needs
+
+returns-3 : tie.Need-returns-3
+unfolding put
+returns-3 c = simp (not-false (c .before .before .before .before .before .before .before .args .run .active) (c .before .before .before .before .before .if1 .left), ap₂ (λ (x y : Bool). x || y) (sym (c .before .before .before .before .is-occupied .ensures)) (sym (c .before .before .before .is-placed .ensures)) ∙ c .before .before .if2 .left, sym (c .before .is-allowed .ensures) ∙ not-true _ (c .if3 .taken))
+
+returns-4 : tie.Need-returns-4
+unfolding put
+returns-4 c = simp (not-false (c .before .before .before .before .before .before .before .before .before .args .run .active) (c .before .before .before .before .before .before .before .if1 .left), ap₂ (λ (x y : Bool). x || y) (sym (c .before .before .before .before .before .before .is-occupied .ensures)) (sym (c .before .before .before .before .before .is-placed .ensures)) ∙ c .before .before .before .before .if2 .left, sym (c .before .before .before .is-allowed .ensures) ∙ not-false _ (c .before .before .if3 .left), toZ-ofZ w32 (c .before .before .before .before .before .before .before .before .before .args .thread .priority) (record { sfits = c .before .struct-told .given .1 .0 .1 }))
+
+pub put-spec : {M : Type 1} → statement M
+put-spec =
+    tie.close
+    (tie.spec
+    returns
+    is-occupied-requires
+    is-placed-requires
+    returns-2
+    is-allowed-requires
+    returns-3
+    returns-4)
