@@ -2,9 +2,6 @@
 use borrow.Author.Needs.{needs}
 use borrow.Author.Tests.{not-true, not-false}
 use mathlib.Core.Path.{sym, _∙_}
-use borrow.Author.Tests.{not-true, not-false}
-use mathlib.Core.Path.{sym, _∙_}
-use Rattle.rules.specs.Rules.{down}
 use Rattle.rules.specs.Rules.{down}
 use Rattle.cpu_rules.proofs.down.Statement.{statement}
 use Rattle.cpu_rules.proofs.down.Tie as tie

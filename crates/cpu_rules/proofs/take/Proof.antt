@@ -4,9 +4,6 @@ use borrow.Author.Tests.{eq-eqb, ne-eqb, not-true, not-false}
 use mathlib.Core.Path.{sym, _∙_}
 use mir.Syntax.{w32}
 use mir.ValLaws.{toZ-ofZ}
-use borrow.Author.Tests.{eq-eqb, ne-eqb, not-true, not-false}
-use mathlib.Core.Path.{sym, _∙_}
-use Rattle.rules.specs.Rules.{take, priority}
 use Rattle.rules.specs.Rules.{take, priority}
 use Rattle.cpu_rules.proofs.take.Statement.{statement}
 use Rattle.cpu_rules.proofs.take.Tie as tie

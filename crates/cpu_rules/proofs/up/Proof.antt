@@ -1,7 +1,6 @@
 -- Each return is the rule's case that the tests on the way name. Assumes nothing.
 use borrow.Author.Needs.{needs}
 use Rattle.rules.specs.Rules.{up}
-use Rattle.rules.specs.Rules.{up}
 use Rattle.cpu_rules.proofs.up.Statement.{statement}
 use Rattle.cpu_rules.proofs.up.Tie as tie
 

@@ -3,7 +3,6 @@ use borrow.Author.Needs.{needs}
 use mathlib.Core.Path.{ap, ap₂, _∙_}
 use mathlib.Core.Bool.{Bool, _&&_, not}
 use Prim.Native.Nat.{ℕ}
-use mathlib.Core.Path.{ap, ap₂, _∙_}
 use Rattle.error.specs.Answer.{Answer}
 use Rattle.spinlock_validate.specs.Owner.{tagBits, spinUnlockValid}
 use Rattle.lock_rules.proofs.elsewhere.Statement.{statement}

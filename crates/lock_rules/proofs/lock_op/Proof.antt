@@ -1,8 +1,6 @@
 -- By the current thread. Assumes nothing.
 use borrow.Author.Needs.{needs}
 use mathlib.Core.Path.{refl}
-use mathlib.Core.Path.{refl}
-use Rattle.rules.specs.Rules.{lockOp}
 use Rattle.rules.specs.Rules.{lockOp}
 use Rattle.lock_rules.proofs.lock_op.Statement.{statement}
 use Rattle.lock_rules.proofs.lock_op.Tie as tie

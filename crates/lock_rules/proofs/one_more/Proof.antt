@@ -1,7 +1,6 @@
 -- By the test. Assumes nothing.
 use borrow.Author.Needs.{needs}
 use borrow.Author.Tests.{lt-ltb, le-ltb}
-use borrow.Author.Tests.{lt-ltb, le-ltb}
 use Rattle.lock_rules.proofs.one_more.Statement.{statement}
 use Rattle.lock_rules.proofs.one_more.Tie as tie
 

@@ -1,8 +1,6 @@
 -- The word's low 32 bits. Assumes nothing.
 use borrow.Author.Needs.{needs}
 use mathlib.Core.Path.{refl}
-use mathlib.Core.Path.{refl}
-use Rattle.rules.specs.Rules.{owner}
 use Rattle.rules.specs.Rules.{owner}
 use Rattle.lock_rules.proofs.owner.Statement.{statement}
 use Rattle.lock_rules.proofs.owner.Tie as tie

@@ -1,7 +1,6 @@
 -- Each return is the rule's case that the tests on the way name. Assumes nothing.
 use borrow.Author.Needs.{needs}
 use mathlib.Core.Path.{sym, _∙_}
-use mathlib.Core.Path.{sym, _∙_}
 use Rattle.lock_rules.proofs.ruled.Statement.{statement}
 use Rattle.lock_rules.proofs.ruled.Tie as tie
 

@@ -2,8 +2,6 @@
 use borrow.Author.Needs.{needs}
 use borrow.Author.Tests.{not-true, not-false}
 use mathlib.Core.Path.{sym, _∙_}
-use borrow.Author.Tests.{not-true, not-false}
-use mathlib.Core.Path.{sym, _∙_}
 use Rattle.lock_rules.proofs.Cases.{settles-refused, settles-accepted}
 use Rattle.lock_rules.proofs.settled.Statement.{statement}
 use Rattle.lock_rules.proofs.settled.Tie as tie

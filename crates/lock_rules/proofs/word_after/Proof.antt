@@ -3,8 +3,6 @@ use borrow.Author.Needs.{needs}
 use borrow.Author.Tests.{not-true, not-false}
 use mathlib.Core.Path.{sym, ap, _∙_}
 use Prim.Native.Nat.{ℕ}
-use borrow.Author.Tests.{not-true, not-false}
-use mathlib.Core.Path.{sym, ap, _∙_}
 use Rattle.error.specs.Answer.{Answer}
 use Rattle.spinlock_validate.specs.Owner.{tagBits, spinLockComputeOwner}
 use Rattle.lock_rules.proofs.word_after.Statement.{statement}

@@ -2,10 +2,8 @@
 use borrow.Author.Needs.{needs}
 use mathlib.Core.Path.{sym, _∙_}
 use borrow.Author.Tests.{not-true, not-false}
-use mathlib.Core.Path.{sym, _∙_}
 use Rattle.runner.proofs.Records.{ill-formed, formed-few}
 use Rattle.runner.specs.Step.{step}
-use Rattle.runner.proofs.Records.{ill-formed, formed-few}
 use Rattle.runner.proofs.step.Statement.{statement}
 use Rattle.runner.proofs.step.Tie as tie
 

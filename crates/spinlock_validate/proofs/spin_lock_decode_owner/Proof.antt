@@ -1,8 +1,6 @@
 -- Each return is the rule's case that the tests on the way name. Assumes nothing.
 use borrow.Author.Needs.{needs}
 use borrow.Author.Tests.{lt-ltb, le-ltb, eq-eqb, ne-eqb}
-use borrow.Author.Tests.{lt-ltb, le-ltb, eq-eqb, ne-eqb}
-use Rattle.spinlock_validate.specs.Owner.{spinLockDecodeOwner}
 use Rattle.spinlock_validate.specs.Owner.{spinLockDecodeOwner}
 use Rattle.spinlock_validate.proofs.spin_lock_decode_owner.Statement.{statement}
 use Rattle.spinlock_validate.proofs.spin_lock_decode_owner.Tie as tie

@@ -1,7 +1,5 @@
 -- Each return is the rule's case that the tests on the way name. Assumes nothing.
 use borrow.Author.Tests.{lt-ltb, le-ltb, eq-eqb, ne-eqb}
-use borrow.Author.Tests.{lt-ltb, le-ltb, eq-eqb, ne-eqb}
-use Rattle.spinlock_validate.specs.Owner.{spinLockValid}
 use Rattle.spinlock_validate.specs.Owner.{spinLockValid}
 use Rattle.spinlock_validate.proofs.spin_lock_valid.Statement.{statement}
 use Rattle.spinlock_validate.proofs.spin_lock_valid.Tie as tie

@@ -2,7 +2,6 @@
 use borrow.Author.Needs.{needs}
 use mathlib.Core.Path.{sym, ap, _∙_}
 use Prim.Native.Nat.{ℕ}
-use mathlib.Core.Path.{sym, ap, _∙_}
 use Rattle.error.specs.Answer.{Answer}
 use Rattle.cpu_mask.specs.Mask.{pinSays}
 use Rattle.thread_rules.proofs.cpu_bit.Statement.{statement}

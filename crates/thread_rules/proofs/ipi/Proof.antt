@@ -4,7 +4,6 @@ use mathlib.Core.Path.{_∙_}
 use mir.Syntax.{w32}
 use mir.Val.{toZ, ofZ}
 use mir.ValLaws.{toZ-ofZ}
-use mathlib.Core.Path.{_∙_}
 use Rattle.thread_rules.proofs.Cases.{ipi-case}
 use Rattle.thread_rules.proofs.ipi.Statement.{statement}
 use Rattle.thread_rules.proofs.ipi.Tie as tie

@@ -3,7 +3,6 @@ use borrow.Author.Needs.{needs}
 use mathlib.Core.Path.{ap, _∙_}
 use mathlib.Core.Bool.{Bool}
 use Prim.Native.Nat.{ℕ}
-use mathlib.Core.Path.{ap, _∙_}
 use Rattle.rules.specs.Rules.{mask, remasked}
 use Rattle.error.specs.Answer.{Answer}
 use Rattle.order.specs.Outcome.{appliedTo}

@@ -2,7 +2,6 @@
 use borrow.Author.Needs.{needs}
 use mathlib.Core.Path.{ap, _∙_}
 use Prim.Native.Nat.{ℕ}
-use mathlib.Core.Path.{ap, _∙_}
 use Rattle.rules.specs.Rules.{mask, pin}
 use Rattle.words.specs.Bit.{bitNot}
 use Rattle.order.specs.Outcome.{appliedTo}

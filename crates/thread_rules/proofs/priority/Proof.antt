@@ -3,8 +3,6 @@ use borrow.Author.Needs.{needs}
 use mathlib.Core.Path.{sym, _∙_}
 use mir.Syntax.{w32}
 use mir.ValLaws.{toZ-ofZ}
-use mathlib.Core.Path.{sym, _∙_}
-use Rattle.rules.specs.Rules.{priority}
 use Rattle.rules.specs.Rules.{priority}
 use Rattle.thread_rules.proofs.priority.Statement.{statement}
 use Rattle.thread_rules.proofs.priority.Tie as tie

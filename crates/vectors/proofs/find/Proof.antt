@@ -2,7 +2,6 @@
 use Prim.Native.Nat.{_-_, _≤_}
 use borrow.Author.Needs.{needs}
 use lib.ListN.{length}
-use Prim.Native.Nat.{_-_, _≤_}
 use Rattle.vectors.proofs.find.Statement.{statement}
 use Rattle.vectors.proofs.find.Tie as tie
 

@@ -3,7 +3,6 @@ use Prim.Native.Nat.{_-_, _≤_}
 use borrow.Author.Needs.{needs}
 use lib.ListN.{length}
 use mathlib.Core.Path.{_≡_}
-use Prim.Native.Nat.{_-_, _≤_}
 use Rattle.vectors.proofs.unhex.Statement.{statement}
 use Rattle.vectors.proofs.unhex.Tie as tie
 

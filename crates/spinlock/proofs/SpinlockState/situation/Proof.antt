@@ -1,8 +1,6 @@
 -- Each return is the situation that the owner and the tests on the way name. Assumes nothing.
 use borrow.Author.Needs.{needs}
 use borrow.Author.Tests.{lt-ltb, le-ltb, eq-eqb, ne-eqb}
-use borrow.Author.Tests.{lt-ltb, le-ltb, eq-eqb, ne-eqb}
-use Rattle.spinlock.specs.Lock.{situationOf}
 use Rattle.spinlock.specs.Lock.{situationOf}
 use Rattle.spinlock.proofs.SpinlockState.situation.Statement.{statement}
 use Rattle.spinlock.proofs.SpinlockState.situation.Tie as tie

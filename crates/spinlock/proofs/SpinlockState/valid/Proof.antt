@@ -1,8 +1,6 @@
 -- Each return is the test that the owner and the depth name. Assumes nothing.
 use borrow.Author.Needs.{needs}
 use borrow.Author.Tests.{lt-ltb, le-ltb, eq-eqb, ne-eqb}
-use borrow.Author.Tests.{lt-ltb, le-ltb, eq-eqb, ne-eqb}
-use Rattle.spinlock.specs.Lock.{validRecord}
 use Rattle.spinlock.specs.Lock.{validRecord}
 use Rattle.spinlock.proofs.SpinlockState.valid.Statement.{statement}
 use Rattle.spinlock.proofs.SpinlockState.valid.Tie as tie
