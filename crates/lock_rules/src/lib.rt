@@ -174,8 +174,9 @@ pub fn lock_op(operation: Operation, c: CpuId, run: Run, lock: Lock, hold: u32) 
 pub fn owner(lock: Lock) -> ValueOut
     ensures { λ r. ⌜ valueSays r ≡ Rules·owner lock ⌝ }
 {
+    let code = Code::Ok;
     ValueOut {
-        code: Code::Ok,
+        code,
         value: (lock.word % 0x1_0000_0000) as u32,
     }
 }

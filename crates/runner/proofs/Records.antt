@@ -21,7 +21,8 @@ use Rattle.record.specs.declared.Request.{Request}
 use Rattle.record.proofs.Range.{inRange, request-in-range}
 use Rattle.words.proofs.Choice.{and-left, and-right}
 use Rattle.wellformed.specs.WellFormed.{sizeOk, wellFormed}
-use Rattle.touch.specs.Touch.{namesLock, lockTouchedSays, lockTouch, seatTouchedSays, seatTouch, cpuIndex, threadIndex, lockIndex}
+use Rattle.named_cells.specs.Named.{namesLock, cpuIndex, threadIndex, lockIndex}
+use Rattle.touch.specs.Touch.{lockTouchedSays, lockTouch, seatTouchedSays, seatTouch}
 use Rattle.runner.specs.Cells.{machineStore}
 use Rattle.runner.specs.Operations.{operation}
 use Rattle.runner.specs.Step.{answered, next}

@@ -25,7 +25,8 @@ use Rattle.record.specs.declared.Request.{Request}
 use Rattle.rules.specs.Rules as Rules
 use Rattle.runner.specs.Cells.{Cell, run, hold, thread, lock, machineStore}
 use Rattle.runner.specs.Operations.{one, two, withHold, operation}
-use Rattle.touch.specs.Touch.{namesLock, OnLock, lockCalled, lockTouch, OnSeat, seatTouch, within, cpuIndex, threadIndex, lockIndex}
+use Rattle.named_cells.specs.Named.{namesLock, within, cpuNamed, cpuIndex, threadNamed, threadIndex, lockNamed, lockIndex}
+use Rattle.touch.specs.Touch.{OnLock, lockCalled, lockTouch, OnSeat, seatTouch}
 
 -- A CPU and a lock are stored, or a CPU and a thread.
 abbrev pub storedLock : Machine → ℕ → ℕ → Cpu × Lock → Machine
@@ -119,7 +120,7 @@ module _ (m : Machine) (few : m .n ≤ 4) where
 
   pub lock-turn : (r : Request) → inRange (m .n) r ≡ true → namesLock r ≡ true
       → Turns m r (lockTouchOf m r .0) (storedLock m (cpuIndex r) (lockIndex r) (lockTouchOf m r .1))
-  unfolding namesLock lockTouch cpuIndex lockIndex
+  unfolding namesLock lockTouch cpuIndex cpuNamed lockIndex lockNamed
   lock-turn Request.Malformed e named = absurd (false≢true named)
   lock-turn (Request.Up c) e named = absurd (false≢true named)
   lock-turn (Request.Down c) e named = absurd (false≢true named)
@@ -136,7 +137,7 @@ module _ (m : Machine) (few : m .n ≤ 4) where
 
   pub seat-turn : (r : Request) → inRange (m .n) r ≡ true → namesLock r ≡ false
       → Turns m r (seatTouchOf m r .0) (storedSeat m (cpuIndex r) (threadIndex r) (seatTouchOf m r .1))
-  unfolding namesLock seatTouch cpuIndex threadIndex
+  unfolding namesLock seatTouch cpuIndex cpuNamed threadIndex threadNamed
   seat-turn Request.Malformed e unnamed = (refl, leave-seat m 0 0)
   seat-turn (Request.Up c) e unnamed =
       let o = Rules.up (cpuAt m (c .0) .run) in

@@ -33,10 +33,10 @@ fn turn(mut m: Machine, bytes: &[u8]) -> Stepped
     ensures { λ r. ⌜ steppedSays r ≡ (answered m (now (bytes .entry)), next m (now (bytes .entry))) ⌝ }
 {
     let request = record::request_of(m.n, bytes);
-    let c = touch::cpu_index(request);
+    let c = named_cells::cpu_index(request);
     let cpu = m.cpus[c];
-    if touch::names_lock(request) {
-        let l = touch::lock_index(request);
+    if named_cells::names_lock(request) {
+        let l = named_cells::lock_index(request);
         let lock = m.locks[l];
         let o = touch::on_lock(request, cpu, lock);
         let code = o.code;
@@ -50,7 +50,7 @@ fn turn(mut m: Machine, bytes: &[u8]) -> Stepped
             machine: m,
         };
     }
-    let t = touch::thread_index(request);
+    let t = named_cells::thread_index(request);
     let cpus = m.cpus;
     let thread = m.threads[t];
     let o = touch::on_seat(m.n, m.pin_only, request, cpus, cpu, thread);
@@ -95,10 +95,10 @@ fn run_records(mut m: Machine, log: &[u8], out: &mut [u8]) -> Machine
         let end = at + 12;
         let to = i * 8;
         let request = record::request_of(m.n, &log[at..end]);
-        let c = touch::cpu_index(request);
+        let c = named_cells::cpu_index(request);
         let cpu = m.cpus[c];
-        if touch::names_lock(request) {
-            let l = touch::lock_index(request);
+        if named_cells::names_lock(request) {
+            let l = named_cells::lock_index(request);
             let lock = m.locks[l];
             let o = touch::on_lock(request, cpu, lock);
             let code = o.code;
@@ -108,7 +108,7 @@ fn run_records(mut m: Machine, log: &[u8], out: &mut [u8]) -> Machine
             m.locks[l] = lock_after;
             record::put_answer(&mut out[to..], code, o.value);
         } else {
-            let t = touch::thread_index(request);
+            let t = named_cells::thread_index(request);
             let cpus = m.cpus;
             let thread = m.threads[t];
             let o = touch::on_seat(m.n, m.pin_only, request, cpus, cpu, thread);

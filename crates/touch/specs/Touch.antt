@@ -1,9 +1,8 @@
 -- A request's effect on what the code loads for it: a CPU and a lock if the request is for a lock, else a CPU and a thread. What the request
 -- does not name comes back as it was. (runner/proofs/Turns.antt: storing them is the operation.)
 use Prim.Native.Nat.{ℕ}
-use mathlib.Core.Bool.{Bool, true, false, cond}
+use mathlib.Core.Bool.{Bool}
 use mathlib.Core.List.{List}
-use lib.Dec.{ltb}
 use lib.ListN.{getD}
 use Rattle.error.specs.Codes.{EINVAL, numberOf}
 use Rattle.error.specs.Answer.{Answer, answer}
@@ -18,22 +17,6 @@ use Rattle.record.specs.declared.Request.{Request}
 use Rattle.rules.specs.Rules as Rules
 use Rattle.touch.specs.declared.LockTouched.{LockTouched}
 use Rattle.touch.specs.declared.SeatTouched.{SeatTouched}
-
--- The request is for a lock. No request is for both a lock and a thread.
-unfoldable pub namesLock : Request → Bool
-namesLock Request.Malformed = false
-namesLock (Request.Up c) = false
-namesLock (Request.Down c) = false
-namesLock (Request.Put c t) = false
-namesLock (Request.Take c t) = false
-namesLock (Request.Acquire c l) = true
-namesLock (Request.Nested c l) = true
-namesLock (Request.Release c l) = true
-namesLock (Request.Mask t enable disable) = false
-namesLock (Request.Pin t c) = false
-namesLock (Request.Priority t a) = false
-namesLock (Request.Ipi c t) = false
-namesLock (Request.Owner l) = true
 
 -- An answer, with the CPU and the lock after it.
 abbrev pub OnLock : Type 0
@@ -111,52 +94,3 @@ seatTouch n pinOnly (Request.Priority t a) cpus cpu thread = touchThread (applie
 seatTouch n pinOnly (Request.Ipi c t) cpus cpu thread =
     leaveSeat (ipiOf (c .0) n cpus thread) cpu thread
 seatTouch n pinOnly (Request.Owner l) cpus cpu thread = leaveSeat (answer EINVAL 0) cpu thread
-
--- The places that the code loads from and stores to: a request's own numbers, and 0 where it has none or one past the end.
-abbrev pub within : ℕ → ℕ → ℕ
-within size i = cond (ltb i size) i 0
-
-unfoldable pub cpuIndex : Request → ℕ
-cpuIndex Request.Malformed = 0
-cpuIndex (Request.Up c) = within 4 (c .0)
-cpuIndex (Request.Down c) = within 4 (c .0)
-cpuIndex (Request.Put c t) = within 4 (c .0)
-cpuIndex (Request.Take c t) = within 4 (c .0)
-cpuIndex (Request.Acquire c l) = within 4 (c .0)
-cpuIndex (Request.Nested c l) = within 4 (c .0)
-cpuIndex (Request.Release c l) = within 4 (c .0)
-cpuIndex (Request.Mask t enable disable) = 0
-cpuIndex (Request.Pin t c) = 0
-cpuIndex (Request.Priority t a) = 0
-cpuIndex (Request.Ipi c t) = 0
-cpuIndex (Request.Owner l) = 0
-
-unfoldable pub threadIndex : Request → ℕ
-threadIndex Request.Malformed = 0
-threadIndex (Request.Up c) = 0
-threadIndex (Request.Down c) = 0
-threadIndex (Request.Put c t) = within 32 (t .0)
-threadIndex (Request.Take c t) = within 32 (t .0)
-threadIndex (Request.Acquire c l) = 0
-threadIndex (Request.Nested c l) = 0
-threadIndex (Request.Release c l) = 0
-threadIndex (Request.Mask t enable disable) = within 32 (t .0)
-threadIndex (Request.Pin t c) = within 32 (t .0)
-threadIndex (Request.Priority t a) = within 32 (t .0)
-threadIndex (Request.Ipi c t) = within 32 (t .0)
-threadIndex (Request.Owner l) = 0
-
-unfoldable pub lockIndex : Request → ℕ
-lockIndex Request.Malformed = 0
-lockIndex (Request.Up c) = 0
-lockIndex (Request.Down c) = 0
-lockIndex (Request.Put c t) = 0
-lockIndex (Request.Take c t) = 0
-lockIndex (Request.Acquire c l) = within 128 (l .0)
-lockIndex (Request.Nested c l) = within 128 (l .0)
-lockIndex (Request.Release c l) = within 128 (l .0)
-lockIndex (Request.Mask t enable disable) = 0
-lockIndex (Request.Pin t c) = 0
-lockIndex (Request.Priority t a) = 0
-lockIndex (Request.Ipi c t) = 0
-lockIndex (Request.Owner l) = within 128 (l .0)

@@ -1,14 +1,12 @@
-// A request on the cells that are loaded for it: a CPU with a lock, or a CPU with a thread, and where they are loaded from.
+// A request on the cells that are loaded for it: a CPU with a lock, or a CPU with a thread.
 //
 // New here. Document 01, "Log records". No request is for both a lock and a thread, so a record costs two cells and no more. A caller can rely on
-// these: what a request does not name comes back as it was, and every index is within its array.
+// this: what a request does not name comes back as it was.
 ghost use mathlib.Core.Path.{_≡_};
-ghost use Prim.Native.Nat.{_<_};
 ghost use Rattle.error.specs.Codes.{EINVAL};
 ghost use Rattle.error.specs.Answer.{answer};
 ghost use Rattle.rules.specs.Rules.{runSays, seatSays, threadSays, lockSays, valueSays};
 ghost use Rattle.touch.specs.Touch.{
-  namesLock,
   lockTouchedSays,
   touchLock,
   leaveLock,
@@ -20,10 +18,6 @@ ghost use Rattle.touch.specs.Touch.{
   leaveSeat,
   ipiOf,
   seatTouch,
-  cpuIndex,
-  threadIndex,
-  lockIndex,
-  within as Touch·within,
 };
 use error::Code;
 use machine::Cpu;
@@ -52,31 +46,6 @@ pub struct LockTouched {
     pub value: u32,
     pub cpu: Cpu,
     pub lock: Lock,
-}
-
-// Whether a request is for a lock. No request is for both a lock and a thread.
-pub fn names_lock(request: Request) -> bool
-    ensures { λ r. ⌜ r ≡ namesLock request ⌝ }
-{
-    match request {
-        Request::Malformed => false,
-        Request::Up(_) => false,
-        Request::Down(_) => false,
-        Request::Put(_, _) => false,
-        Request::Take(_, _) => false,
-        Request::Acquire(_, _) => true,
-        Request::Nested(_, _) => true,
-        Request::Release(_, _) => true,
-        Request::Mask {
-            thread: _,
-            enable: _,
-            disable: _,
-        } => false,
-        Request::Pin(_, _) => false,
-        Request::Priority(_, _) => false,
-        Request::Ipi(_, _) => false,
-        Request::Owner(_) => true,
-    }
 }
 
 fn touch_lock(o: LockOut, cpu: Cpu) -> LockTouched
@@ -243,85 +212,5 @@ pub fn on_seat(
         Request::Priority(_, a) => touch_thread(thread_rules::priority(a, thread), cpu),
         Request::Ipi(c, _) => leave_seat(ipi_of(c, n, cpus, thread), cpu, thread),
         _ => leave_seat(malformed(), cpu, thread),
-    }
-}
-
-// A number below the size, or 0.
-fn within(size: u32, i: u32) -> usize
-    requires { ⌜ 0 < size ⌝ }
-    ensures { λ r. ⌜ (r ≡ Touch·within size i) × (r < size) ⌝ }
-{
-    if i < size { i as usize } else { 0 }
-}
-
-pub fn cpu_index(request: Request) -> usize
-    ensures { λ r. ⌜ (r ≡ cpuIndex request) × (r < 4) ⌝ }
-{
-    match request {
-        Request::Malformed => 0,
-        Request::Up(c) => within(machine::CPU_SLOTS, c.0),
-        Request::Down(c) => within(machine::CPU_SLOTS, c.0),
-        Request::Put(c, _) => within(machine::CPU_SLOTS, c.0),
-        Request::Take(c, _) => within(machine::CPU_SLOTS, c.0),
-        Request::Acquire(c, _) => within(machine::CPU_SLOTS, c.0),
-        Request::Nested(c, _) => within(machine::CPU_SLOTS, c.0),
-        Request::Release(c, _) => within(machine::CPU_SLOTS, c.0),
-        Request::Mask {
-            thread: _,
-            enable: _,
-            disable: _,
-        } => 0,
-        Request::Pin(_, _) => 0,
-        Request::Priority(_, _) => 0,
-        Request::Ipi(_, _) => 0,
-        Request::Owner(_) => 0,
-    }
-}
-
-pub fn thread_index(request: Request) -> usize
-    ensures { λ r. ⌜ (r ≡ threadIndex request) × (r < 32) ⌝ }
-{
-    match request {
-        Request::Malformed => 0,
-        Request::Up(_) => 0,
-        Request::Down(_) => 0,
-        Request::Put(_, t) => within(machine::THREADS, t.0),
-        Request::Take(_, t) => within(machine::THREADS, t.0),
-        Request::Acquire(_, _) => 0,
-        Request::Nested(_, _) => 0,
-        Request::Release(_, _) => 0,
-        Request::Mask {
-            thread: t,
-            enable: _,
-            disable: _,
-        } => within(machine::THREADS, t.0),
-        Request::Pin(t, _) => within(machine::THREADS, t.0),
-        Request::Priority(t, _) => within(machine::THREADS, t.0),
-        Request::Ipi(_, t) => within(machine::THREADS, t.0),
-        Request::Owner(_) => 0,
-    }
-}
-
-pub fn lock_index(request: Request) -> usize
-    ensures { λ r. ⌜ (r ≡ lockIndex request) × (r < 128) ⌝ }
-{
-    match request {
-        Request::Malformed => 0,
-        Request::Up(_) => 0,
-        Request::Down(_) => 0,
-        Request::Put(_, _) => 0,
-        Request::Take(_, _) => 0,
-        Request::Acquire(_, l) => within(machine::LOCKS, l.0),
-        Request::Nested(_, l) => within(machine::LOCKS, l.0),
-        Request::Release(_, l) => within(machine::LOCKS, l.0),
-        Request::Mask {
-            thread: _,
-            enable: _,
-            disable: _,
-        } => 0,
-        Request::Pin(_, _) => 0,
-        Request::Priority(_, _) => 0,
-        Request::Ipi(_, _) => 0,
-        Request::Owner(l) => within(machine::LOCKS, l.0),
     }
 }

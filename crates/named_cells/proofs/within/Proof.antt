@@ -1,7 +1,7 @@
 -- By the test. Assumes nothing.
 use borrow.Author.Tests.{lt-ltb, le-ltb}
-use Rattle.touch.proofs.within.Statement.{statement}
-use Rattle.touch.proofs.within.Tie as tie
+use Rattle.named_cells.proofs.within.Statement.{statement}
+use Rattle.named_cells.proofs.within.Tie as tie
 
 returns : tie.Need-returns
 returns c = (simp (lt-ltb _ _ (c .if1 .taken)), c .if1 .taken)
