@@ -19,7 +19,7 @@ ghost use Rattle.kernel.specs.Calls.{
   ipiMask,
   ipiMaskTest,
 };
-ghost use Rattle.setup_run.specs.Run.{runCode, runRoom};
+ghost use Rattle.setup_run.specs.Run.{codeFromSetup, roomFromSetup};
 use cpu_mask::CpuMaskResult;
 use cpu_mask::PinMask;
 use error::Code;
@@ -197,8 +197,8 @@ pub extern "C" fn hubcrackle_validate_ipi_mask(
 // The answers of a log, from the machine that a setup byte asks for: 8 bytes a record.
 #[no_mangle]
 pub extern "C" fn hubcrackle_run(setup: u8, log: &[u8], out: &mut [u8]) -> i32
-    ensures code { λ r. ⌜ r ≡ runCode setup (now (log .entry)) (length (now (out .entry))) ⌝ }
-    ensures room { λ _. ⌜ now (out .exit) ≡ runRoom setup (now (log .entry)) (now (out .entry)) ⌝ }
+    ensures code { λ r. ⌜ r ≡ codeFromSetup setup (now (log .entry)) (length (now (out .entry))) ⌝ }
+    ensures room { λ _. ⌜ now (out .exit) ≡ roomFromSetup setup (now (log .entry)) (now (out .entry)) ⌝ }
 {
     let code = setup_run::run_from_setup(setup, log, out);
     error::number(code)

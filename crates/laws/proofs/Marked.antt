@@ -15,9 +15,10 @@ use Rattle.rules.specs.Rules.{up, down, put, take, lockOp, mask, pin, priority,
 use Rattle.wellformed.specs.WellFormed.{allBelow, sumBelow, wellFormed}
 use Rattle.runner.specs.Step.{answered, next}
 use Rattle.runner.specs.Run.{stateAt, roomAt, runCode, ran, ranRoom}
+use Rattle.setup_run.specs.Run.{codeFromSetup, roomFromSetup}
 use Rattle.program.specs.Program.{inputCode, respondRoom}
 use Rattle.laws.specs.Marked.{Holds, table, all, at, cpu, cpus, opened, workedLog, zeros, workedAnswers, workedEnd}
 
 pub marked : Holds table
-unfolding Holds table at cpu cpus all ones onesIn bit bitsOf spinLockComputeOwner spinLockDecodeOwner spinLockValid codeOf after operate validRecord situationOf cpuMaskMod cpuPinCompute computeIpiMask gets opened workedLog zeros workedAnswers workedEnd threadMask freshMachine fresh setup fieldsOf operationOf isPriority cpuAlone cpuAndThread cpuAndLock threadAndMasks threadAndPriority lockAlone requestOf answerBytes written toSigned fromSigned up down put take lockOp mask pin priority ipi owner answered next stateAt roomAt runCode ran ranRoom inputCode respondRoom allBelow sumBelow wellFormed spinUnlockValid
+unfolding Holds table at cpu cpus all ones onesIn bit bitsOf spinLockComputeOwner spinLockDecodeOwner spinLockValid codeOf after operate validRecord situationOf cpuMaskMod cpuPinCompute computeIpiMask gets opened workedLog zeros workedAnswers workedEnd threadMask freshMachine fresh setup fieldsOf operationOf isPriority cpuAlone cpuAndThread cpuAndLock threadAndMasks threadAndPriority lockAlone requestOf answerBytes written toSigned fromSigned up down put take lockOp mask pin priority ipi owner answered next stateAt roomAt runCode ran ranRoom codeFromSetup roomFromSetup inputCode respondRoom allBelow sumBelow wellFormed spinUnlockValid
 marked = (refl, (refl, (refl, (refl, (refl, (refl, (refl, (refl, (refl, (refl, (refl, (refl, (refl, (refl, (refl, (refl, (refl, (refl, (refl, (refl, tt))))))))))))))))))))

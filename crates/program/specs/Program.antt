@@ -7,25 +7,19 @@ use lib.Dec.{eqb}
 use lib.IntN.{ℤ}
 use lib.ListN.{length, getD, drop}
 use Rattle.error.specs.Codes.{EINVAL, isOK}
-use Rattle.error.specs.Answer.{Answer}
-use Rattle.machine.specs.State.{setup}
-use Rattle.machine.specs.declared.Machine.{Machine}
 use Rattle.record.specs.Answer.{answerBytes, written}
-use Rattle.runner.specs.Run.{ran, ranRoom}
+use Rattle.setup_run.specs.Run.{codeFromSetup, roomFromSetup}
 
--- The machine that the setup byte asks for, and the log behind it.
-abbrev pub made : List ℕ → Answer Machine
-made input = setup (getD input 0 0)
+-- The setup byte, and the log behind it.
+abbrev pub setupOf : List ℕ → ℕ
+setupOf input = getD input 0 0
 
 abbrev pub logOf : List ℕ → List ℕ
 logOf input = drop 1 input
 
 -- The code of an input, with so much room for its answers.
 unfoldable pub inputCode : List ℕ → ℕ → ℤ
-inputCode input room =
-    cond (eqb (length input) 0) EINVAL
-    (cond (isOK (made input .code)) (ran (made input .value) (logOf input) room .code)
-    (made input .code))
+inputCode input room = cond (eqb (length input) 0) EINVAL (codeFromSetup (setupOf input) (logOf input) room)
 
 -- One answer with a code and value 0, over the front of the room.
 abbrev pub refusalRoom : ℤ → List ℕ → List ℕ
@@ -38,4 +32,4 @@ respondSize input room = cond (isOK (inputCode input room)) (length (logOf input
 -- The room afterwards: the answers of the run, or the one answer.
 unfoldable pub respondRoom : List ℕ → List ℕ → List ℕ
 respondRoom input room =
-    cond (isOK (inputCode input (length room))) (ranRoom (made input .value) (logOf input) room) (refusalRoom (inputCode input (length room)) room)
+    cond (isOK (inputCode input (length room))) (roomFromSetup (setupOf input) (logOf input) room) (refusalRoom (inputCode input (length room)) room)

@@ -30,16 +30,9 @@ pub fn respond(input: &[u8], out: &mut [u8]) -> usize
     if input.len() == 0 {
         return refuse(out, Code::Einval);
     }
-    let made = machine::setup(input[0]);
-    let code = made.code;
+    let code = setup_run::run_from_setup(input[0], &input[1..], out);
     if !error::is_ok(code) {
         return refuse(out, code);
-    }
-    let machine = made.machine;
-    let ran = runner::run(machine, &input[1..], out);
-    let run_code = ran.code;
-    if !error::is_ok(run_code) {
-        return refuse(out, run_code);
     }
     (input.len() - 1) / record::RECORD_BYTES * record::ANSWER_BYTES
 }

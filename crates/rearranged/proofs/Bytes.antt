@@ -14,6 +14,9 @@ use Rattle.machine.specs.declared.Machine.{Machine}
 use Rattle.record.specs.Answer.{answerBytes}
 use Rattle.wellformed.specs.WellFormed.{wellFormed}
 use Rattle.runner.specs.Run.{stateAt, answerAt, roomAt, runCode, ran, ranRoom}
+use Rattle.runner.proofs.Refused.{refused-room}
+use Rattle.setup_run.specs.Run.{codeFromSetup}
+use Rattle.setup_run.proofs.Cases.{accepted-runs}
 use Rattle.program.specs.Program.{inputCode, refusalRoom, respondSize, respondRoom}
 use Rattle.rearranged.specs.Rearranged.{Rearranged, SameRun, place, SameBytes, SameResponse}
 use Rattle.rearranged.proofs.Places.{answer-in-place}
@@ -36,10 +39,6 @@ run-room : (m : Machine) (log room : List ℕ) → isOK (ran m log (length room)
     → ranRoom m log room ≡ roomAt m log room (length log / 12)
 unfolding ran ranRoom
 run-room m log room e = rw e
-
-refused-room : (m : Machine) (log room : List ℕ) → isOK (ran m log (length room) .code) ≡ false → ranRoom m log room ≡ room
-unfolding ran ranRoom
-refused-room m log room e = rw e
 
 -- A run writes each record's answer into its place.
 pub place-of-run : (m : Machine) (log room : List ℕ) → isOK (ran m log (length room) .code) ≡ true → (k : ℕ) → k < length log / 12
@@ -69,20 +68,15 @@ rearranged-bytes m old new room π size r =
       refused = λ bad. refused-room m new room (ap (λ x. isOK (x .code)) end ∙ bad) ∙ sym (refused-room m old room bad);
     }
 
--- The program's code is the setup's, if that refuses, and else the run's.
-input-code : (s : ℕ) (log : List ℕ) (room : ℕ)
-    → inputCode (s ∷ log) room ≡ cond (isOK (setup s .code)) (ran (setup s .value) log room .code) (setup s .code)
+-- The program's code is that of its setup byte and its log.
+input-code : (s : ℕ) (log : List ℕ) (room : ℕ) → inputCode (s ∷ log) room ≡ codeFromSetup s log room
 unfolding inputCode
 input-code s log room = rw (ne-eqb (suc (length log)) 0 (λ e. omega arith))
-
-run-accepts : (good : Bool) (ran made : ℤ) → isOK made ≡ good → isOK (cond good ran made) ≡ true → isOK ran ≡ true
-run-accepts true ran made e ok = ok
-run-accepts false ran made e ok = absurd (false≢true (sym e ∙ ok))
 
 accepted-room : (s : ℕ) (log room : List ℕ) → isOK (inputCode (s ∷ log) (length room)) ≡ true
     → respondRoom (s ∷ log) room ≡ ranRoom (setup s .value) log room
 unfolding respondRoom
-accepted-room s log room ok = rw ok
+accepted-room s log room ok = rw ok (accepted-runs s log room (ap isOK (sym (input-code s log (length room))) ∙ ok) .1)
 
 refused-response : (s : ℕ) (log room : List ℕ) → isOK (inputCode (s ∷ log) (length room)) ≡ false
     → respondRoom (s ∷ log) room ≡ refusalRoom (inputCode (s ∷ log) (length room)) room
@@ -94,19 +88,23 @@ same-size : (s : ℕ) (old new : List ℕ) (room : ℕ) → length new ≡ lengt
 unfolding respondSize
 same-size s old new room size code = rw (code, size)
 
+-- Runs that end alike have one code.
+same-code : (s : ℕ) (old new : List ℕ) (room : ℕ) → ran (setup s .value) new room ≡ ran (setup s .value) old room
+    → codeFromSetup s new room ≡ codeFromSetup s old room
+unfolding codeFromSetup
+same-code s old new room e = ap (λ a. cond (isOK (setup s .code)) (a .code) (setup s .code)) e
+
 -- The program.
 pub rearranged-response : (s : ℕ) (old new room : List ℕ) (π : ℕ → ℕ) → length new ≡ length old
     → Rearranged (setup s .value .n) (length old / 12) old new π → SameResponse s old new room π
 rearranged-response s old new room π size r =
     let same : SameBytes (setup s .value) old new room π = rearranged-bytes (setup s .value) old new room π size r in
     let code : inputCode (s ∷ new) (length room) ≡ inputCode (s ∷ old) (length room) =
-    input-code s new (length room)
-    ∙ ap (λ a. cond (isOK (setup s .code)) (a .code) (setup s .code)) (same .end)
-    ∙ sym (input-code s old (length room)) in
+    input-code s new (length room) ∙ same-code s old new (length room) (same .end) ∙ sym (input-code s old (length room)) in
     record {
       size = same-size s old new (length room) size code;
       each = λ ok k h.
-          let runs = run-accepts (isOK (setup s .code)) _ (setup s .code) refl (ap isOK (sym (input-code s old (length room))) ∙ ok) in
+          let runs = accepted-runs s old room (ap isOK (sym (input-code s old (length room))) ∙ ok) .0 in
           ap (λ x. place x k) (accepted-room s new room (ap isOK code ∙ ok)) ∙ same .each runs k h
           ∙ sym (ap (λ x. place x (π k)) (accepted-room s old room ok));
       refused = λ bad.

@@ -5,13 +5,13 @@
 ghost use mathlib.Core.Path.{_≡_};
 ghost use lib.ListN.{length};
 ghost use Rattle.error.specs.Codes.{numberOf};
-ghost use Rattle.setup_run.specs.Run.{runCode, runRoom};
+ghost use Rattle.setup_run.specs.Run.{codeFromSetup, roomFromSetup};
 use error::Code;
 
 // The answers of a log over the front of the room, and the code.
 pub fn run_from_setup(setup: u8, log: &[u8], out: &mut [u8]) -> Code
-    ensures code { λ r. ⌜ numberOf r ≡ runCode setup (now (log .entry)) (length (now (out .entry))) ⌝ }
-    ensures room { λ _. ⌜ now (out .exit) ≡ runRoom setup (now (log .entry)) (now (out .entry)) ⌝ }
+    ensures code { λ r. ⌜ numberOf r ≡ codeFromSetup setup (now (log .entry)) (length (now (out .entry))) ⌝ }
+    ensures room { λ _. ⌜ now (out .exit) ≡ roomFromSetup setup (now (log .entry)) (now (out .entry)) ⌝ }
 {
     let made = machine::setup(setup);
     let refused = made.code;
