@@ -106,26 +106,15 @@ pub fn compute_ipi_mask(
 pub fn validate_ipi_mask(mask: u32, current_cpu: u32, max_cpus: u32) -> YesNo
     ensures { λ r. ⌜ yesNoSays r ≡ validateIpiMask mask «current_cpu» «max_cpus» ⌝ }
 {
-    if max_cpus > MAX_IPI_CPUS {
+    if !((max_cpus <= MAX_IPI_CPUS) & (current_cpu < max_cpus)) {
         return YesNo {
             code: Code::Einval,
             yes: false,
         };
     }
-    if current_cpu >= max_cpus {
-        return YesNo {
-            code: Code::Einval,
-            yes: false,
-        };
-    }
-    if mask & (1u32 << current_cpu) != 0 {
-        return YesNo {
-            code: Code::Ok,
-            yes: false,
-        };
-    }
+    let names_current = mask & (1u32 << current_cpu) != 0;
     YesNo {
         code: Code::Ok,
-        yes: mask >> max_cpus == 0,
+        yes: !names_current & (mask >> max_cpus == 0),
     }
 }

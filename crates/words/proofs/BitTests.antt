@@ -2,7 +2,7 @@
 -- Assumes nothing.
 use mathlib.Core.Path.{_≡_, sym, ap, ap₂, _∙_}
 use mathlib.Core.Logic.{_⊎_, inl, inr}
-use mathlib.Core.Bool.{true, false, not}
+use mathlib.Core.Bool.{not}
 use Prim.Native.Nat.{ℕ, zero, suc, _+_, _*_, _/_, _%_, _^_, _≤_, _<_, min}
 use native.Mathlib.Nat.{div-one, div-div-eq-div-mul, pow-succ', mod-lt, one-mul, zero-mul, mul-one, mul-assoc, mul-comm, add-zero, min-zero, mod-eq-of-lt, div-eq-of-lt, div-lt-iff-lt-mul}
 use native.Mathlib.Omega.{arith}
@@ -38,35 +38,15 @@ test-bit i m = ap (λ (x : ℕ). not (eqb x 0)) (and-pow i m) ∙ go (m / 2 ^ i 
 pub shl-one : (w i : ℕ) → i < w → (1 * 2 ^ i) % 2 ^ w ≡ 2 ^ i
 shl-one w i h = ap (λ (x : ℕ). x % 2 ^ w) (one-mul (2 ^ i)) ∙ mod-eq-of-lt (pow-lt h)
 
--- `m & (1 << i) == 0`: bit i is clear.
-pub bit-clear : (w i m : ℕ) → i < w → bitAnd m ((1 * 2 ^ i) % 2 ^ w) ≡ 0 → bit i m ≡ false
-bit-clear w i m h e = sym (test-bit i m) ∙ ap not (eq-eqb (bitAnd m (2 ^ i)) 0 (ap (bitAnd m) (sym (shl-one w i h)) ∙ e))
-
--- `m & (1 << i) != 0`: bit i is set.
-pub bit-set : (w i m : ℕ) → i < w → (bitAnd m ((1 * 2 ^ i) % 2 ^ w) ≡ 0 → ⊥) → bit i m ≡ true
-bit-set w i m h f = sym (test-bit i m) ∙ ap not (ne-eqb (bitAnd m (2 ^ i)) 0 (λ e. f (ap (bitAnd m) (shl-one w i h) ∙ e)))
-
--- `m >> k == 0`: m is below 2 ^ k.
-pub top-clear : (k m : ℕ) → m / 2 ^ k ≡ 0 → ltb m (2 ^ k) ≡ true
-top-clear k m e =
+below-top : (k m : ℕ) → m / 2 ^ k ≡ 0 → m < 2 ^ k
+below-top k m e =
     let l : m < 1 * 2 ^ k = div-lt-iff-lt-mul {k = 2 ^ k} {x = m} {y = 1} (pow-pos k) .0 (omega arith) in
-    lt-ltb m (2 ^ k) (rw one-mul at l)
+    rw one-mul at l
 
--- `m >> k != 0`: it is not.
-pub top-set : (k m : ℕ) → (m / 2 ^ k ≡ 0 → ⊥) → ltb m (2 ^ k) ≡ false
-top-set k m f = go (below-or m (2 ^ k))
-  where
-    go : (m < 2 ^ k) ⊎ (2 ^ k ≤ m) → ltb m (2 ^ k) ≡ false
-    go (inl h) = absurd (f (div-eq-of-lt h))
-    go (inr h) = le-ltb m (2 ^ k) h
-
--- The two together, as one equation of tests.
+-- The test `m >> k == 0` asks whether m is below 2 ^ k.
 pub top-test : (k m : ℕ) → eqb (m / 2 ^ k) 0 ≡ ltb m (2 ^ k)
 top-test k m = go (below-or m (2 ^ k))
   where
     go : (m < 2 ^ k) ⊎ (2 ^ k ≤ m) → eqb (m / 2 ^ k) 0 ≡ ltb m (2 ^ k)
     go (inl h) = eq-eqb (m / 2 ^ k) 0 (div-eq-of-lt h) ∙ sym (lt-ltb m (2 ^ k) h)
-    go (inr h) = ne-eqb (m / 2 ^ k) 0 (λ e. clash (top-clear k m e) (le-ltb m (2 ^ k) h)) ∙ sym (le-ltb m (2 ^ k) h)
-      where
-        clash : ltb m (2 ^ k) ≡ true → ltb m (2 ^ k) ≡ false → ⊥
-        clash p q = let o : _≡_ {A = ℕ} 0 1 = cc in omega arith
+    go (inr h) = ne-eqb (m / 2 ^ k) 0 (λ e. omega (arith, below-top k m e)) ∙ sym (le-ltb m (2 ^ k) h)

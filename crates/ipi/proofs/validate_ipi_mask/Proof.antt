@@ -1,42 +1,46 @@
--- Each return is the rule's case that the tests on the way name. Assumes nothing.
-use borrow.Author.Needs.{needs}
-use borrow.Author.Tests.{lt-ltb, le-ltb, le-leb, lt-leb}
+-- A refusal and an answer, each by the rule's own test of its numbers. Assumes nothing.
+use borrow.Author.Tests.{leb-true, ltb-true, not-true, not-false}
+use mathlib.Core.Path.{_≡_}
+use mathlib.Core.Bool.{true, _&&_}
+use Prim.Native.Nat.{ℕ, _≤_, _<_}
 use native.Mathlib.Omega.{arith}
-use Rattle.ipi.specs.Ipi.{validateIpiMask}
-use Rattle.words.proofs.BitTests.{bit-clear, bit-set, top-test}
+use lib.Dec.{leb, ltb}
+use Rattle.words.proofs.Choice.{and-left, and-right}
+use Rattle.words.proofs.BitTests.{shl-one, test-bit, top-test}
+use Rattle.ipi.specs.Ipi.{maxIpiCpus, validateIpiMask}
 use Rattle.ipi.proofs.validate_ipi_mask.Statement.{statement}
 use Rattle.ipi.proofs.validate_ipi_mask.Tie as tie
 
+present : (current max : ℕ) → leb max maxIpiCpus && ltb current max ≡ true → (max ≤ 16) × (current < max)
+present current max good =
+    (leb-true max maxIpiCpus (and-left (leb max maxIpiCpus) _ good), ltb-true current max (and-right (leb max maxIpiCpus) _ good))
+
 returns : tie.Need-returns
 unfolding validateIpiMask
-returns c = simp (lt-leb _ _ (c .if1 .taken))
+returns c =
+    let a = c .before .args in
+    rw (not-true (leb (a .max-cpus) maxIpiCpus && ltb (a .current-cpu) (a .max-cpus)) (c .if1 .taken))
+
+shl-names-current : tie.Need-shl-names-current
+shl-names-current c =
+    let a = c .before .args in
+    let p = present (a .current-cpu) (a .max-cpus) (not-false _ (c .if1 .left)) in
+    omega (arith, p .0, p .1)
+
+shr-t11 : tie.Need-shr-t11
+shr-t11 c =
+    let a = c .before .args in
+    let p = present (a .current-cpu) (a .max-cpus) (not-false _ (c .if1 .left)) in
+    omega (arith, p .0)
 
 returns-2 : tie.Need-returns-2
 unfolding validateIpiMask
-returns-2 c = simp (le-leb _ _ (c .before .if1 .left), le-ltb _ _ (c .if2 .taken))
-
-shl-if3 : tie.Need-shl-if3
-shl-if3 c = search needs
-
-returns-3 : tie.Need-returns-3
-unfolding validateIpiMask
-returns-3 c =
-    let a = c .before .before .before .args in
-    simp (le-leb _ _ (c .before .before .if1 .left), lt-ltb _ _ (c .before .if2 .left), bit-set 32 (a .current-cpu) (a .mask) (omega arith) (c .if3 .taken))
-
-shr-t7 : tie.Need-shr-t7
-shr-t7 c = search needs
-
-returns-4 : tie.Need-returns-4
-unfolding validateIpiMask
-returns-4 c =
-    let a = c .before .before .before .args in
-    simp (
-      le-leb _ _ (c .before .before .if1 .left),
-      lt-ltb _ _ (c .before .if2 .left),
-      bit-clear 32 (a .current-cpu) (a .mask) (omega arith) (c .if3 .left),
-      top-test (a .max-cpus) (a .mask),
-    )
+returns-2 c =
+    let a = c .before .args in
+    let good = not-false _ (c .if1 .left) in
+    let p = present (a .current-cpu) (a .max-cpus) good in
+    let below : a .current-cpu < 32 = omega (arith, p .0, p .1) in
+    simp (good, shl-one 32 (a .current-cpu) below, test-bit (a .current-cpu) (a .mask), top-test (a .max-cpus) (a .mask))
 
 pub validate-ipi-mask-spec : {M : Type 1} → statement M
-validate-ipi-mask-spec = tie.close (tie.spec returns returns-2 shl-if3 returns-3 shr-t7 returns-4)
+validate-ipi-mask-spec = tie.close (tie.spec returns shl-names-current shr-t11 returns-2)
