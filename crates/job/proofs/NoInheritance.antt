@@ -26,7 +26,7 @@ use Rattle.machine.specs.declared.CpuId.{CpuId}
 use Rattle.machine.specs.declared.ThreadId.{ThreadId}
 use Rattle.machine.specs.declared.Machine.{Machine}
 use Rattle.order.specs.Outcome.{Outcome, refuse, accept, answerOf}
-use Rattle.order.specs.Cells.{commit, after}
+use Rattle.order.specs.Cells.{commit}
 use Rattle.record.specs.Record.{requestOf}
 use Rattle.record.specs.declared.Request.{Request}
 use Rattle.record.proofs.Range.{inRange, request-in-range}

@@ -1,7 +1,7 @@
 -- Nothing is lost: a release right after an accepted nested acquire by the same CPU is accepted, and the machine is the one before the two.
 -- Assumes nothing.
 use mathlib.Core.Path.{_≡_, refl, ap, ap₂, sym, _∙_}
-use mathlib.Core.Bool.{true, false, not, cond, false≢true}
+use mathlib.Core.Bool.{true, false, false≢true}
 use mathlib.Core.List.{List, [], _∷_}
 use Prim.Native.Nat.{ℕ, zero, suc, _-_, _<_}
 use native.Mathlib.Omega.{arith}
@@ -11,18 +11,17 @@ use borrow.Author.Tests.{ltb-true, lt-ltb, eq-eqb}
 use Rattle.error.specs.Codes.{OK, isOK}
 use Rattle.error.specs.Answer.{Answer, answer}
 use Rattle.words.specs.Tag.{wordOf}
-use Rattle.words.proofs.Choice.{bool-ind, and-left, and-right}
+use Rattle.words.proofs.Choice.{and-left, and-right}
 use Rattle.words.proofs.Tags.{Taggable}
 use Rattle.spinlock_validate.specs.Owner.{tagBits}
 use Rattle.spinlock_validate.proofs.Laws.{makes, unlock-own}
 use Rattle.error.proofs.Answers.{same-value}
 use Rattle.spinlock.specs.Table.{codeOf}
-use Rattle.spinlock.specs.Lock.{freeRecord, takenBy, deeper, validRecord, situationOf, after, operate}
+use Rattle.spinlock.specs.Lock.{maxNestDepth, freeRecord, takenBy, deeper, validRecord, situationOf, after, operate}
 use Rattle.spinlock.specs.declared.Owner.{Owner}
 use Rattle.spinlock.specs.declared.SpinlockState.{SpinlockState}
 use Rattle.spinlock.specs.declared.Operation.{Operation}
-use Rattle.spinlock.specs.declared.Situation.{Situation}
-use Rattle.spinlock.proofs.Situations.{HeldBy, View, free, own, full, foreign, view}
+use Rattle.spinlock.proofs.Situations.{HeldBy, below-is-own}
 use Rattle.spinlock.proofs.Laws.{operated, nested, release-undoes, acquire-then-release}
 use Rattle.order.specs.Outcome.{Outcome, refuse, accept, answerOf}
 use Rattle.order.specs.Cells.{commit}
@@ -45,15 +44,19 @@ use Rattle.runner.specs.Step.{answered, next}
 use Rattle.kept.proofs.Depths.{hold-most}
 use Rattle.kept.proofs.Lengths.{Lengths}
 use Rattle.kept.proofs.Stored.{cpu-there, lock-there}
-use Rattle.kept.proofs.Accepted.{Accepting}
+use Rattle.kept.proofs.Walk.{Ways, Told, walked}
 use Rattle.kept.proofs.Locked.{named, lock-valid}
 use Rattle.job.specs.Job.{Accepted, Gives}
-use Rattle.job.proofs.NoInheritance.{Honest}
-use Rattle.job.proofs.Exclusion.{lock-honest}
 
 -- A release of this lock, by the CPU's thread, gives back the lock of the machine.
 pub record Undone (m : Machine) (c l : ℕ) (v : Lock) : Type 0 where
   pub back : lockOp Operation.Release c (cpuAt m c .run) v ≡ accept (answer OK (lockAt m l .state .«nest_count»)) (lockAt m l)
+
+-- Of a nested acquire that is to be shown, and of the other operations nothing.
+abbrev UndoneBy : Machine → ℕ → ℕ → Operation → Lock → Type 0
+UndoneBy m c l Operation.Acquire v = Unit {0}
+UndoneBy m c l Operation.Nested v = Undone m c l v
+UndoneBy m c l Operation.Release v = Unit {0}
 
 module _ (m : Machine) (w : WellFormed m) (c l t : ℕ) (hc : c < m .n) (hl : l < lockCount) (runs : Runs m c t) where
   taggable : Taggable tagBits c (threadWord t)
@@ -93,38 +96,28 @@ module _ (m : Machine) (w : WellFormed m) (c l t : ℕ) (hc : c < m .n) (hl : l 
       w .held l hl t owner .word ∙ ap (λ x. wordOf x (threadWord t)) (named m w c l t hc hl runs owner) in
       released _ owner (same ∙ made) rule (rw owner)
 
-  by-view : {sit : Situation} → View (lockAt m l .state) t sit
-      → (codeOf Operation.Nested sit ≡ OK → operate Operation.Release (after Operation.Nested sit (lockAt m l .state) t) t ≡ answer OK (lockAt m l .state))
-      → Accepting (Undone m c l) (settled c t (lockAt m l) (answer (codeOf Operation.Nested sit) (after Operation.Nested sit (lockAt m l .state) t)))
+  -- A release undoes the level that a nested acquire went up.
+  up-and-down : HeldBy (lockAt m l .state) t → lockAt m l .state .«nest_count» < maxNestDepth
+      → operate Operation.Release (deeper (lockAt m l .state)) t ≡ answer OK (lockAt m l .state)
   unfolding codeOf after
-  by-view (free e) rule = taken e
-  by-view (own mine _) rule = nested-up mine (rule refl)
-  by-view (full _ _) rule = tt
-  by-view (foreign _ _ _) rule = tt
+  up-and-down mine below =
+      let rule = operated Operation.Nested (lockAt m l .state) t (lock-valid m w l hl) (below-is-own (lockAt m l .state) t (mine .owner) below) in
+      ap (λ (a : Answer SpinlockState). operate Operation.Release (a .value) t) (sym rule)
+      ∙ release-undoes Operation.Nested nested (lockAt m l .state) t (ap (λ (a : Answer SpinlockState). a .code) rule)
 
-  by-rule : Accepting (Undone m c l) (settled c t (lockAt m l) (ruled Operation.Nested c t (lockAt m l)))
-  unfolding codeOf
-  by-rule =
-      bool-ind
-      (λ b. Accepting (Undone m c l)
-      (settled c t (lockAt m l)
-      (cond b (answer (codeOf Operation.Nested Situation.Foreign) (lockAt m l .state)) (operate Operation.Nested (lockAt m l .state) t))))
-      (elsewhere c t (lockAt m l)) (λ _. tt) (λ _.
-      let valid = lock-valid m w l hl in
-      let rule = operated Operation.Nested (lockAt m l .state) t valid refl in
-      rw rule
-      (by-view (view (lockAt m l .state) t valid)
-      (λ ok. ap (λ (a : Answer SpinlockState). operate Operation.Release (a .value) t) (sym rule)
-      ∙ release-undoes Operation.Nested nested (lockAt m l .state) t (ap (λ (a : Answer SpinlockState). a .code) rule ∙ ok))))
+  ways : Ways c t (lockAt m l) (UndoneBy m c l)
+  ways =
+      record {
+        acquired = λ _. tt;
+        nested-first = taken;
+        nested-more = λ mine below. nested-up mine (up-and-down mine below);
+        released = λ _. tt;
+      }
 
 nested-undone : (m : Machine) → WellFormed m → (c l : ℕ) → c < m .n → l < lockCount
-    → Accepting (Undone m c l) (lockOp Operation.Nested c (cpuAt m c .run) (lockAt m l))
-unfolding lockOp
-nested-undone m w c l hc hl = go (cpuAt m c .run .current) refl
-  where
-    go : (o : Current) → cpuAt m c .run .current ≡ o → Accepting (Undone m c l) (lockBy Operation.Nested c o (lockAt m l))
-    go Current.None e = tt
-    go (Current.Thread t) e = by-rule m w c l (t .0) hc hl e
+    → Told (Undone m c l) (lockOp Operation.Nested c (cpuAt m c .run) (lockAt m l))
+nested-undone m w c l hc hl =
+    walked c (cpuAt m c .run) (lockAt m l) (lock-valid m w l hl) (UndoneBy m c l) (λ t runs. ways m w c l t hc hl runs) Operation.Nested
 
 -- What is stored over a place, and then what stood there, leaves a list as it was.
 set-back : {A : Type 0} (xs : List A) (i : ℕ) (v d : A) → set (set xs i v) i (getD xs i d) ≡ xs
@@ -185,11 +178,11 @@ module _ (m : Machine) (s : Lengths m) (w : WellFormed m) (c : CpuId) (l : LockI
   gives v u bytes asks =
       rw asks (restored m s (c .0) (l .0) inside hl (moved Operation.Nested (cpuAt m (c .0) .hold)) v one-less u)
 
-  after-nested : (o : Outcome (Answer ℕ) Lock) → Accepting (Undone m (c .0) (l .0)) o → Honest o
+  after-nested : (o : Outcome (Answer ℕ) Lock) → Told (Undone m (c .0) (l .0)) o
       → isOK (answerOf (withHold Operation.Nested (cpuAt m (c .0) .hold) o) .code) ≡ true
       → Gives m c l (commit machineStore (Answer ℕ) (lock (l .0) ∷ hold (c .0) ∷ []) (withHold Operation.Nested (cpuAt m (c .0) .hold) o) m)
-  after-nested (refuse a) u e ok = absurd (false≢true (sym e ∙ ok))
-  after-nested (accept a v) u e ok = gives v u
+  after-nested (refuse a) e ok = absurd (false≢true (sym e ∙ ok))
+  after-nested (accept a v) u ok = gives v (u .1)
 
 -- An accepted nested acquire of lock l by CPU c, and then a release of it by that CPU: the machine before is the machine after.
 pub nothing-lost : (m : Machine) → Lengths m → wellFormed m ≡ true → (bytes : List ℕ) (c : CpuId) (l : LockId)
@@ -201,5 +194,4 @@ nothing-lost m s good bytes c l a =
     let hl = ltb-true (l .0) lockCount (and-right (ltb (c .0) (m .n)) _ e) in
     rw (a .asks)
     (after-nested m s (says m good) c l hc hl (lockOp Operation.Nested (c .0) (cpuAt m (c .0) .run) (lockAt m (l .0)))
-    (nested-undone m (says m good) (c .0) (l .0) hc hl)
-    (lock-honest Operation.Nested (c .0) (cpuAt m (c .0) .run .current) (lockAt m (l .0))) (rw (a .asks) at (a .ok)))
+    (nested-undone m (says m good) (c .0) (l .0) hc hl) (rw (a .asks) at (a .ok)))

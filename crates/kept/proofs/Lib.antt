@@ -9,5 +9,6 @@ pub mod Sums
 pub mod Depths
 pub mod Seated
 pub mod Locks
+pub mod Walk
 pub mod Locked
 pub mod Laws

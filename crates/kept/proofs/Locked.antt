@@ -1,32 +1,27 @@
--- An acquire, a nested acquire and a release that the lock's rule accepts leave the machine well-formed. By the lock's situation to the
--- CPU's current thread: a free lock is taken, an own one goes a level up or down, and every other is refused. A lock of that thread is a lock
--- of that CPU, for the thread runs nowhere else. Assumes nothing.
+-- An acquire, a nested acquire and a release that the lock's rule accepts leave the machine well-formed, in each of the ways of `Walk`. A lock
+-- of the CPU's current thread is a lock of that CPU, for the thread runs nowhere else. Assumes nothing.
 use mathlib.Core.Path.{_≡_, refl, sym, ap, _∙_}
 use mathlib.Core.Bool.{true, cond}
 use Prim.Native.Nat.{ℕ, _+_, _-_, _≤_, _<_}
 use native.Mathlib.Omega.{arith}
 use lib.Dec.{eqb}
 use borrow.Author.Tests.{lt-ltb, eqb-true, eqb-false}
-use Rattle.error.specs.Answer.{answer}
 use Rattle.error.proofs.Answers.{same-value}
 use Rattle.words.specs.Tag.{wordOf, cpuOf}
 use Rattle.words.proofs.Choice.{bool-ind}
 use Rattle.words.proofs.Tags.{Taggable, cpu-back}
 use Rattle.spinlock_validate.specs.Owner.{tagBits}
 use Rattle.spinlock_validate.proofs.Laws.{makes}
-use Rattle.spinlock.specs.Table.{codeOf}
-use Rattle.spinlock.specs.Lock.{maxNestDepth, freeRecord, takenBy, deeper, shallower, validRecord, after, operate}
+use Rattle.spinlock.specs.Lock.{maxNestDepth, freeRecord, takenBy, deeper, shallower, validRecord}
 use Rattle.spinlock.specs.declared.Owner.{Owner}
 use Rattle.spinlock.specs.declared.SpinlockState.{SpinlockState}
 use Rattle.spinlock.specs.declared.Operation.{Operation}
-use Rattle.spinlock.specs.declared.Situation.{Situation}
-use Rattle.spinlock.proofs.Situations.{HeldBy, View, free, own, full, foreign, view}
-use Rattle.spinlock.proofs.Laws.{operated, held-valid}
+use Rattle.spinlock.proofs.Situations.{HeldBy, free}
+use Rattle.spinlock.proofs.Laws.{held-valid}
 use Rattle.machine.specs.State.{cpuSlots, lockCount, threadWord, cpuAt, lockAt}
-use Rattle.machine.specs.declared.Current.{Current}
 use Rattle.machine.specs.declared.Lock.{Lock}
 use Rattle.machine.specs.declared.Machine.{Machine}
-use Rattle.rules.specs.Rules.{elsewhere, ruled, wordAfter, settled, lockBy, lockOp, oneMore, moved}
+use Rattle.rules.specs.Rules.{wordAfter, lockOp, oneMore, moved}
 use Rattle.wellformed.specs.WellFormed.{depthFor, sumBelow}
 use Rattle.wellformed.proofs.Facts.{Runs, WellFormed}
 use Rattle.kept.proofs.Apart.{none-or-owner, same-cpu, same-owner}
@@ -34,6 +29,7 @@ use Rattle.kept.proofs.Accepted.{Accepting}
 use Rattle.kept.proofs.Sums.{sum-term}
 use Rattle.kept.proofs.Depths.{depth-named, depth-zero, depth-other, held-word, hold-most}
 use Rattle.kept.proofs.Locks.{Relocks}
+use Rattle.kept.proofs.Walk.{Ways, walked, told-accepting}
 
 -- A CPU below 4 and a thread's word make an owner word.
 word-taggable : (c t : ℕ) → c < cpuSlots → Taggable tagBits c (threadWord t)
@@ -169,48 +165,22 @@ module _ (m : Machine) (w : WellFormed m) (c l t : ℕ) (hc : c < m .n) (hl : l 
       let least = hold-least (mine .owner) in
       leveled (mine .owner) _ _ (mine .owner) refl (word-held lower t t (mine .owner) (mine .owner)) (omega arith) (omega arith) (omega arith))
 
-  by-view : (op : Operation) {sit : Situation} → View (lockAt m l .state) t sit
-      → Accepting (Relocks m c l (moved op (cpuAt m c .hold)))
-      (settled c t (lockAt m l) (answer (codeOf op sit) (after op sit (lockAt m l .state) t)))
-  unfolding codeOf after
-  by-view Operation.Acquire (free e) = taken-here e
-  by-view Operation.Acquire (own _ _) = tt
-  by-view Operation.Acquire (full _ _) = tt
-  by-view Operation.Acquire (foreign _ _ _) = tt
-  by-view Operation.Nested (free e) = taken-here e
-  by-view Operation.Nested (own mine below) =
-      let some = mine .some in
-      leveled (mine .owner) _ _ (mine .owner) refl (word-held (deeper (lockAt m l .state)) t t (mine .owner) (mine .owner)) (omega arith) (omega arith)
-      (rw more (omega arith))
-  by-view Operation.Nested (full _ _) = tt
-  by-view Operation.Nested (foreign _ _ _) = tt
-  by-view Operation.Release (free e) = tt
-  by-view Operation.Release (own mine _) = released mine
-  by-view Operation.Release (full mine _) = released mine
-  by-view Operation.Release (foreign _ _ _) = tt
-
-  foreign-refused : (op : Operation)
-      → Accepting (Relocks m c l (moved op (cpuAt m c .hold))) (settled c t (lockAt m l) (answer (codeOf op Situation.Foreign) (lockAt m l .state)))
-  unfolding codeOf
-  foreign-refused Operation.Acquire = tt
-  foreign-refused Operation.Nested = tt
-  foreign-refused Operation.Release = tt
-
-  by-rule : (op : Operation) → Accepting (Relocks m c l (moved op (cpuAt m c .hold))) (settled c t (lockAt m l) (ruled op c t (lockAt m l)))
-  by-rule op =
-      bool-ind
-      (λ b. Accepting (Relocks m c l (moved op (cpuAt m c .hold)))
-      (settled c t (lockAt m l) (cond b (answer (codeOf op Situation.Foreign) (lockAt m l .state)) (operate op (lockAt m l .state) t))))
-      (elsewhere c t (lockAt m l)) (λ _. foreign-refused op) (λ _.
-      let valid = lock-valid m w l hl in
-      rw (operated op (lockAt m l .state) t valid refl) (by-view op (view (lockAt m l .state) t valid)))
+  ways : Ways c t (lockAt m l) (λ op. Relocks m c l (moved op (cpuAt m c .hold)))
+  ways =
+      record {
+        acquired = taken-here;
+        nested-first = taken-here;
+        nested-more = λ mine below.
+            let some = mine .some in
+            leveled (mine .owner) _ _ (mine .owner) refl (word-held (deeper (lockAt m l .state)) t t (mine .owner) (mine .owner)) (omega arith) (omega arith)
+            (rw more (omega arith));
+        released = released;
+      }
 
 -- What the lock's rule hands back makes a good change, with the hold that moves.
 pub lock-accepted : (m : Machine) → WellFormed m → (c l : ℕ) → c < m .n → l < lockCount → (op : Operation)
     → Accepting (Relocks m c l (moved op (cpuAt m c .hold))) (lockOp op c (cpuAt m c .run) (lockAt m l))
-unfolding lockOp
-lock-accepted m w c l hc hl op = go (cpuAt m c .run .current) refl
-  where
-    go : (o : Current) → cpuAt m c .run .current ≡ o → Accepting (Relocks m c l (moved op (cpuAt m c .hold))) (lockBy op c o (lockAt m l))
-    go Current.None e = tt
-    go (Current.Thread t) e = by-rule m w c l (t .0) hc hl e op
+lock-accepted m w c l hc hl op =
+    told-accepting (Relocks m c l (moved op (cpuAt m c .hold))) (lockOp op c (cpuAt m c .run) (lockAt m l))
+    (walked c (cpuAt m c .run) (lockAt m l) (lock-valid m w l hl) (λ op. Relocks m c l (moved op (cpuAt m c .hold)))
+    (λ t runs. ways m w c l t hc hl runs) op)

@@ -33,7 +33,8 @@ use Rattle.rearranged.specs.Clash.{In, here, there}
 use Rattle.rearranged.proofs.Commute.{after-other}
 use Rattle.rearranged.proofs.MachineStore.{Shape, shape, machine-laws}
 use Rattle.ledger.specs.Ledger.{Call, acquire, release, other, callOf, Book, ofLock, ofCpu, mine, acquired, released, counted, balance, InBooks}
-use Rattle.ledger.proofs.Moves.{up, down, Moves, Told, lock-told}
+use Rattle.kept.proofs.Walk.{Told}
+use Rattle.ledger.proofs.Moves.{up, down, Moves, lock-told}
 
 -- The cell in which a book's balance stands.
 abbrev cellOf : Book → Cell
