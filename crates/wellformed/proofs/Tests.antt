@@ -1,6 +1,6 @@
 -- Tests over an index and chains of tests: as the code goes through them, one turn of a loop and one conjunct after the other, and as facts.
 -- Assumes nothing.
-use mathlib.Core.Path.{_≡_, refl, sym, ap, _∙_}
+use mathlib.Core.Path.{_≡_, refl, sym, ap, ap₂, _∙_}
 use mathlib.Core.Logic.{_⊎_, inl, inr}
 use mathlib.Core.Bool.{Bool, true, false, _&&_, not, and-assoc}
 use Prim.Native.Nat.{ℕ, zero, suc, _+_, _≤_, _<_}
@@ -16,13 +16,20 @@ use Rattle.wellformed.specs.WellFormed.{allBelow, sumBelow, eqZ}
 
 -- ---- in the code
 
-pub all-more : (p : ℕ → Bool) (k : ℕ) → allBelow p (k + 1) ≡ (allBelow p k && p k)
+all-more : (p : ℕ → Bool) (k : ℕ) → allBelow p (k + 1) ≡ (allBelow p k && p k)
 unfolding allBelow
 all-more p k = rw add-one
 
-pub sum-more : (f : ℕ → ℕ) (k : ℕ) → sumBelow f (k + 1) ≡ sumBelow f k + f k
+sum-more : (f : ℕ → ℕ) (k : ℕ) → sumBelow f (k + 1) ≡ sumBelow f k + f k
 unfolding sumBelow
 sum-more f k = rw add-one
+
+-- One turn of a loop that asks one test, and of one that adds one term.
+pub turn-one : (f : ℕ → Bool) (k : ℕ) {ok a : Bool} → allBelow f k ≡ ok → a ≡ f k → allBelow f (k + 1) ≡ (ok && a)
+turn-one f k below x = all-more f k ∙ ap₂ (λ (p q : Bool). p && q) below (sym x)
+
+pub turn-sum : (f : ℕ → ℕ) (k : ℕ) {sum a : ℕ} → sum ≡ sumBelow f k → a ≡ f k → sum + a ≡ sumBelow f (k + 1)
+turn-sum f k below x = ap₂ (λ (p q : ℕ). p + q) below x ∙ sym (sum-more f k)
 
 -- One turn of a loop that asks three tests, one after the other.
 pub turn :

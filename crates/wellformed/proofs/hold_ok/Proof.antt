@@ -4,7 +4,7 @@ use mathlib.Core.Path.{_≡_, ap, _∙_}
 use borrow.Author.Needs.{needs}
 use native.Mathlib.Omega.{arith}
 use lib.Dec.{eqb}
-use Rattle.wellformed.proofs.Tests.{sum-more}
+use Rattle.wellformed.proofs.Tests.{turn-sum}
 use Rattle.wellformed.specs.WellFormed.{sumBelow, depthFor}
 use Rattle.machine.specs.State.{lockCount, lockAt}
 use Rattle.wellformed.proofs.hold_ok.Statement.{statement}
@@ -45,7 +45,7 @@ loop-less : tie.Need-loop-less Inv-loop μ-loop
 loop-less c = search needs
 
 loop-again : tie.Need-loop-again Inv-loop μ-loop
-loop-again c = (search needs, search needs, cc (sum-more _ _))
+loop-again c = (search needs, search needs, turn-sum _ _ (c .before .before .before .loop .inv .2) (c .depth-for .ensures))
 
 cast-at : tie.Need-cast-at Inv-loop μ-loop
 cast-at c = search needs

@@ -3,7 +3,7 @@ use Prim.Native.Nat.{_≤_, _-_}
 use mathlib.Core.Path.{_≡_}
 use borrow.Author.Needs.{needs}
 use native.Mathlib.Omega.{arith}
-use Rattle.wellformed.proofs.Tests.{all-more}
+use Rattle.wellformed.proofs.Tests.{turn-one}
 use Rattle.wellformed.specs.WellFormed.{allBelow, holdOk}
 use Rattle.machine.specs.State.{cpuSlots}
 use Rattle.wellformed.proofs.holds_ok.Statement.{statement}
@@ -29,7 +29,7 @@ loop-less : tie.Need-loop-less Inv-loop μ-loop
 loop-less c = search needs
 
 loop-again : tie.Need-loop-again Inv-loop μ-loop
-loop-again c = (search needs, cc (all-more _ _))
+loop-again c = (search needs, turn-one _ _ (c .before .before .loop .inv .1) (c .hold-ok .ensures))
 
 returns : tie.Need-returns Inv-loop μ-loop
 returns c = let all : c .before .loop .c ≡ cpuSlots = omega arith in cc

@@ -3,7 +3,7 @@ use Prim.Native.Nat.{_≤_, _-_}
 use mathlib.Core.Path.{_≡_}
 use borrow.Author.Needs.{needs}
 use native.Mathlib.Omega.{arith}
-use Rattle.wellformed.proofs.Tests.{all-more}
+use Rattle.wellformed.proofs.Tests.{turn-one}
 use Rattle.wellformed.specs.WellFormed.{allBelow, lockOk}
 use Rattle.machine.specs.State.{lockCount}
 use Rattle.wellformed.proofs.locks_ok.Statement.{statement}
@@ -38,7 +38,7 @@ loop-less : tie.Need-loop-less Inv-loop μ-loop
 loop-less c = search needs
 
 loop-again : tie.Need-loop-again Inv-loop μ-loop
-loop-again c = (search needs, cc (all-more _ _))
+loop-again c = (search needs, turn-one _ _ (c .before .before .before .loop .inv .1) (c .lock-ok .ensures))
 
 returns : tie.Need-returns Inv-loop μ-loop
 returns c = let all : c .before .loop .l ≡ lockCount = omega arith in cc
