@@ -1,15 +1,13 @@
 -- 01, "The machine": n CPUs, 32 threads, and 128 locks, all free at the start, in one record.
 use Prim.Native.Nat.{ℕ, _+_, _*_, _/_, _%_}
 use mathlib.Core.Bool.{Bool, true, false, _&&_, cond}
-use mathlib.Core.List.{List}
 use lib.Dec.{eqb, leb}
-use lib.IntN.{ℤ, pos}
+use lib.IntN.{pos}
 use lib.ListN.{getD, replicate}
 use Rattle.error.specs.Codes.{OK, EINVAL, numberOf}
 use Rattle.error.specs.Answer.{Answer, answer}
 use Rattle.spinlock.specs.Lock.{freeRecord}
 use Rattle.machine.specs.declared.Current.{Current}
-use Rattle.machine.specs.declared.Place.{Place}
 use Rattle.machine.specs.declared.Place.the-variants.{Nowhere}
 use Rattle.machine.specs.declared.Run.{Run}
 use Rattle.machine.specs.declared.Cpu.{Cpu}

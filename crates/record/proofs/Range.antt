@@ -1,7 +1,7 @@
 -- A request's numbers are in range: whatever bytes it comes from, its CPU is below n, its thread below 32 and its lock below 128. The form test
 -- of each operation says so. Assumes nothing.
 use mathlib.Core.Path.{_≡_, refl}
-use mathlib.Core.Bool.{Bool, true, false, _&&_, cond}
+use mathlib.Core.Bool.{Bool, true, _&&_, cond}
 use mathlib.Core.List.{List}
 use Prim.Native.Nat.{ℕ}
 use lib.Dec.{eqb, ltb}

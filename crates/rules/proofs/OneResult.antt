@@ -1,6 +1,6 @@
 -- What is said of this crate's results tells them apart, so each statement of cpu_rules, lock_rules and thread_rules allows one result. (A lock's
 -- result has its hold said beside it.) Assumes nothing.
-use mathlib.Core.Path.{_≡_, refl, sym, ap, ap₂, _∙_}
+use mathlib.Core.Path.{_≡_, refl, ap, ap₂, _∙_}
 use Prim.Native.Nat.{ℕ}
 use Rattle.error.specs.Answer.{Answer}
 use Rattle.error.specs.declared.Code.{Code}

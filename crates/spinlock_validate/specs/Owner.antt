@@ -1,6 +1,6 @@
 -- 01, "Owner word": which thread on which CPU holds a lock, in one word. The rules go by the width k of the tag; 4 CPUs take 2 bits.
 use Prim.Native.Nat.{ℕ, _^_}
-use mathlib.Core.Bool.{Bool, true, false, _&&_, not, cond}
+use mathlib.Core.Bool.{Bool, false, _&&_, not, cond}
 use lib.Dec.{eqb, ltb}
 use Rattle.error.specs.Codes.{OK, EINVAL, numberOf}
 use Rattle.error.specs.Answer.{Answer, answer}

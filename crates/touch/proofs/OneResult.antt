@@ -1,5 +1,5 @@
 -- What is said of this crate's results tells them apart, so each statement here allows one result. Assumes nothing.
-use mathlib.Core.Path.{_≡_, ap, ap₂}
+use mathlib.Core.Path.{ap, ap₂}
 use Rattle.error.specs.declared.Code.{Code}
 use Rattle.error.proofs.OneResult.{TellsApart, number-apart}
 use Rattle.touch.specs.Touch.{OnLock, lockTouchedSays, OnSeat, seatTouchedSays}

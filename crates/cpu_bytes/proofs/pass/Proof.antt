@@ -1,6 +1,6 @@
 -- The loop's invariant: of the CPUs passed so far, `valid` is the test of their active bytes and the mask has the bits of those that get the
 -- interrupt. A turn puts the next bit in or leaves it out. The measure is what is left of num_cpus. Assumes nothing.
-use Prim.Native.Nat.{_≤_, _-_, _*_}
+use Prim.Native.Nat.{_≤_, _-_}
 use native.Mathlib.Numerals.{add-one}
 use native.Mathlib.Omega.{arith}
 use mathlib.Core.Path.{_≡_, refl, sym, ap, _∙_}
