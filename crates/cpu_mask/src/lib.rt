@@ -1,9 +1,10 @@
 // CPU affinity masks: bit i says that a thread may run on CPU i.
 //
-// Upstream: src/cpu_mask.rs; cpu_mask_mod, validate_pin_mask, cpu_pin_compute and CpuMaskResult keep their names.
+// Upstream: src/cpu_mask.rs; cpu_mask_mod, validate_pin_mask, cpu_pin_compute and CpuMaskResult keep their names. `allows` is new here.
 // A mask of zero is a mask (upstream withdrew CM4): such a thread waits until bits are enabled again. A caller can rely on every bit of the
 // new mask (proofs/Laws.antt) and on the cases in which the call succeeds, not only on what success means.
 ghost use mathlib.Core.Path.{_≡_};
+ghost use Rattle.words.specs.Bit.{bit};
 ghost use Rattle.cpu_mask.specs.Mask.{newMask, validatePinMask, maskSays, pinSays, cpuMaskMod, cpuPinCompute};
 use error::Code;
 
@@ -23,6 +24,16 @@ pub struct CpuMaskResult {
 pub enum PinMask {
     Only(u32),
     BadCpu,
+}
+
+// Whether a mask allows a CPU: its bit is set. None allows a CPU past its bits.
+pub fn allows(mask: u32, cpu: u32) -> bool
+    ensures { λ r. ⌜ r ≡ bit cpu mask ⌝ }
+{
+    if cpu >= MASK_BITS {
+        return false;
+    }
+    mask & (1u32 << cpu) != 0
 }
 
 fn new_mask(current_mask: u32, enable: u32, disable: u32) -> u32

@@ -2,9 +2,8 @@
 // from the values of the cells that it names to their new values and an answer. A rule never sees the machine, so it reads and writes nothing
 // else.
 //
-// New here; the definitions are in the crate rules, the bit of a mask is defined in words. A refusal hands every cell back as it was.
+// New here; the definitions are in the crate rules, masks go by the crate cpu_mask. A refusal hands every cell back as it was.
 ghost use mathlib.Core.Path.{_≡_};
-ghost use Rattle.words.specs.Bit.{bit};
 ghost use Rattle.order.specs.Outcome.{appliedTo};
 ghost use Rattle.machine.specs.State.{isCurrent, idleRun};
 ghost use Rattle.rules.specs.Rules.{
@@ -113,7 +112,7 @@ pub fn put(c: CpuId, t: ThreadId, run: Run, thread: Thread) -> SeatOut
             thread,
         };
     }
-    if !is_allowed(c, thread.mask) {
+    if !cpu_mask::allows(thread.mask, c.0) {
         return SeatOut {
             code: Code::Einval,
             run,
@@ -133,16 +132,6 @@ pub fn put(c: CpuId, t: ThreadId, run: Run, thread: Thread) -> SeatOut
             place: Place::On(c),
         },
     }
-}
-
-// Whether a mask allows a CPU. None allows a CPU past its bits.
-fn is_allowed(c: CpuId, mask: u32) -> bool
-    ensures { λ r. ⌜ r ≡ bit (c .0) mask ⌝ }
-{
-    if c.0 >= 32 {
-        return false;
-    }
-    mask & (1u32 << c.0) != 0
 }
 
 // 3: the thread leaves the CPU.

@@ -14,9 +14,6 @@ use error::YesNo;
 // Upstream's MAX_CPUS of this file: how many CPUs an interrupt mask covers.
 pub const MAX_IPI_CPUS: u32 = 16;
 
-// How many CPUs an affinity mask has bits for.
-const MASK_BITS: u32 = 32;
-
 // One CPU: whether it is up, and the priority of what it runs.
 pub struct CpuRecord {
     pub active: bool,
@@ -29,7 +26,7 @@ pub struct IpiMask {
     pub mask: u32,
 }
 
-// Whether the CPU with this record gets the interrupt. None past the mask's bits does.
+// Whether the CPU with this record gets the interrupt.
 pub fn gets_ipi(
     current_cpu: u32,
     target_prio: i32,
@@ -39,12 +36,9 @@ pub fn gets_ipi(
 ) -> bool
     ensures { λ r. ⌜ r ≡ gets «current_cpu» «target_prio» «target_cpu_mask» idx cpu ⌝ }
 {
-    if idx >= MASK_BITS {
-        return false;
-    }
     let active = cpu.active;
     let priority = cpu.priority;
-    let allowed = target_cpu_mask & (1u32 << idx) != 0;
+    let allowed = cpu_mask::allows(target_cpu_mask, idx);
     (idx != current_cpu) & (active & (allowed & (target_prio < priority)))
 }
 

@@ -6,7 +6,6 @@
 // says the clauses as facts, and that the test is true exactly where they hold.
 ghost use mathlib.Core.Path.{_≡_};
 ghost use Prim.Native.Nat.{_<_, _≤_};
-ghost use Rattle.words.specs.Bit.{bit};
 ghost use Rattle.machine.specs.State.{cpuSlots, threadCount, lockCount};
 ghost use Rattle.wellformed.specs.WellFormed.{
   allBelow,
@@ -92,14 +91,6 @@ fn is_place(place: Place, c: CpuId) -> bool
         Place::Nowhere => false,
         Place::On(d) => d.0 == c.0,
     }
-}
-
-// Whether the mask has the CPU's bit.
-fn allows(mask: u32, c: CpuId) -> bool
-    requires { ⌜ c .0 < cpuSlots ⌝ }
-    ensures { λ r. ⌜ r ≡ bit (c .0) mask ⌝ }
-{
-    mask & (1u32 << c.0) != 0
 }
 
 // n is 1 to 4.
@@ -222,7 +213,6 @@ fn holds_ok(m: Machine) -> bool
 
 // A current thread is below 32 and its CPU is active, carries its priority, is its place, and is allowed by its mask.
 fn thread_fits(threads: [Thread; 32], c: CpuId, run: Run, t: ThreadId) -> bool
-    requires { ⌜ c .0 < cpuSlots ⌝ }
     ensures { λ r. ⌜ r ≡ currentBy threads (c .0) run (Current.Thread t) ⌝ }
 {
     if t.0 >= THREADS {
@@ -240,11 +230,10 @@ fn thread_fits(threads: [Thread; 32], c: CpuId, run: Run, t: ThreadId) -> bool
     if !is_place(place, c) {
         return false;
     }
-    allows(thread.mask, c)
+    cpu_mask::allows(thread.mask, c.0)
 }
 
 fn current_ok(threads: [Thread; 32], c: CpuId, cpu: Cpu) -> bool
-    requires { ⌜ c .0 < cpuSlots ⌝ }
     ensures { λ r. ⌜ r ≡ currentBy threads (c .0) (cpu .run) (cpu .run .current) ⌝ }
 {
     let run = cpu.run;

@@ -23,16 +23,16 @@ returns-2 : tie.Need-returns-2
 unfolding put
 returns-2 c = simp (not-false (c .before .before .before .before .before .args .run .active) (c .before .before .before .if1 .left), ap₂ (λ (x y : Bool). x || y) (sym (c .before .before .is-occupied .ensures)) (sym (c .before .is-placed .ensures)) ∙ c .if2 .taken)
 
-is-allowed-requires : tie.Need-is-allowed-requires
-is-allowed-requires c κs = search needs
+allows-requires : tie.Need-allows-requires
+allows-requires c κs = search needs
 
 returns-3 : tie.Need-returns-3
 unfolding put
-returns-3 c = simp (not-false (c .before .before .before .before .before .before .before .args .run .active) (c .before .before .before .before .before .if1 .left), ap₂ (λ (x y : Bool). x || y) (sym (c .before .before .before .before .is-occupied .ensures)) (sym (c .before .before .before .is-placed .ensures)) ∙ c .before .before .if2 .left, sym (c .before .is-allowed .ensures) ∙ not-true _ (c .if3 .taken))
+returns-3 c = simp (not-false (c .before .before .before .before .before .before .before .args .run .active) (c .before .before .before .before .before .if1 .left), ap₂ (λ (x y : Bool). x || y) (sym (c .before .before .before .before .is-occupied .ensures)) (sym (c .before .before .before .is-placed .ensures)) ∙ c .before .before .if2 .left, sym (c .before .allows .ensures) ∙ not-true _ (c .if3 .taken))
 
 returns-4 : tie.Need-returns-4
 unfolding put
-returns-4 c = simp (not-false (c .before .before .before .before .before .before .before .before .before .args .run .active) (c .before .before .before .before .before .before .before .if1 .left), ap₂ (λ (x y : Bool). x || y) (sym (c .before .before .before .before .before .before .is-occupied .ensures)) (sym (c .before .before .before .before .before .is-placed .ensures)) ∙ c .before .before .before .before .if2 .left, sym (c .before .before .before .is-allowed .ensures) ∙ not-false _ (c .before .before .if3 .left), toZ-ofZ w32 (c .before .before .before .before .before .before .before .before .before .args .thread .priority) (record { sfits = c .before .struct-told .given .1 .0 .1 }))
+returns-4 c = simp (not-false (c .before .before .before .before .before .before .before .before .before .args .run .active) (c .before .before .before .before .before .before .before .if1 .left), ap₂ (λ (x y : Bool). x || y) (sym (c .before .before .before .before .before .before .is-occupied .ensures)) (sym (c .before .before .before .before .before .is-placed .ensures)) ∙ c .before .before .before .before .if2 .left, sym (c .before .before .before .allows .ensures) ∙ not-false _ (c .before .before .if3 .left), toZ-ofZ w32 (c .before .before .before .before .before .before .before .before .before .args .thread .priority) (record { sfits = c .before .struct-told .given .1 .0 .1 }))
 
 pub put-spec : {M : Type 1} → statement M
 put-spec =
@@ -42,6 +42,6 @@ put-spec =
     is-occupied-requires
     is-placed-requires
     returns-2
-    is-allowed-requires
+    allows-requires
     returns-3
     returns-4)
