@@ -54,12 +54,11 @@ def lock_record(name, a):
     mine = owner is not None and owner == thread
     if name == "valid":
         return yes_no(valid)
-    if name == "situation":
-        if owner is None:
-            return "free, acquire: OK, nested: OK, release: EPERM"
-        if not mine:
-            return "foreign, acquire: EBUSY, nested: EBUSY, release: EPERM"
-        return "own, acquire: EBUSY, nested: OK, release: OK" if depth < 255 else "full, acquire: EBUSY, nested: EBUSY, release: OK"
+    if name.endswith("_elsewhere"):
+        # The right thread with the wrong CPU is no owner: EBUSY to take the lock, EPERM to give it back.
+        if valid and mine:
+            return ("EPERM " if name == "release_elsewhere" else "EBUSY ") + same
+        name = {"acquire_elsewhere": "acquire", "nested_elsewhere": "acquire_nested", "release_elsewhere": "release"}[name]
     if name in ("acquire", "acquire_nested", "release"):
         if not valid:
             return "EINVAL " + same

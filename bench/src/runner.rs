@@ -26,7 +26,10 @@ const ROUNDS: usize = 300;
 /// What is written over the room before a run, and must stay past the last answer.
 const FILL: u8 = 0x55;
 const PAST: usize = 5;
-const GOAL: f64 = 1.5;
+/// The most that a log may take, as a ratio to the baseline: mixed, of one operation, and empty.
+const MIXED_GOAL: f64 = 1.2;
+const ONLY_GOAL: f64 = 1.5;
+const EMPTY_GOAL: f64 = 2.0;
 
 fn run(call: Run, log: &[u8], out: &mut [u8]) -> i32 {
     // SAFETY: both calls take two slices with their lengths.
@@ -68,9 +71,11 @@ fn times(logs: &[Vec<u8>]) -> [f64; 2] {
     best
 }
 
-fn row(name: &str, accepted: String, [ours, theirs]: [f64; 2], count: usize) {
+/// Prints a row, and says whether its goal is met.
+fn row(name: &str, accepted: String, [ours, theirs]: [f64; 2], count: usize, goal: f64) -> bool {
     let (ours, theirs) = (ours / count as f64, theirs / count as f64);
-    println!("{name:<12} {accepted:>14} {ours:>10.2} {theirs:>10.2} {:>7.2}", ours / theirs);
+    println!("{name:<14} {accepted:>12} {ours:>10.2} {theirs:>10.2} {:>7.2} {goal:>5.1}", ours / theirs);
+    ours / theirs <= goal
 }
 
 fn main() {
@@ -78,16 +83,15 @@ fn main() {
     let mixed: Vec<_> = (0..LOGS).map(|_| logs::mixed(&mut random)).collect();
     let counts = compare(&mixed);
     println!("{LOGS} logs of {RECORDS} records, best of {ROUNDS} rounds; ns a record, the last line ns a run");
-    println!("{:<12} {:>14} {:>10} {:>10} {:>7}", "records", "accepted", "proved", "baseline", "ratio");
+    println!("{:<14} {:>12} {:>10} {:>10} {:>7} {:>5}", "records", "accepted", "proved", "baseline", "ratio", "goal");
+    let mut met = Vec::new();
     for (operation, (name, (accepted, all))) in OPERATIONS.iter().zip(counts).enumerate() {
         assert!(accepted > 0, "{name} is never accepted: the logs do not keep it busy");
         let only: Vec<_> = (0..LOGS).map(|_| logs::only(operation, &mut random)).collect();
         compare(&only);
-        row(&format!("{name} only"), format!("{accepted}/{all}"), times(&only), RECORDS);
+        met.push(row(&format!("{name} only"), format!("{accepted}/{all}"), times(&only), RECORDS, ONLY_GOAL));
     }
-    let whole = times(&mixed);
-    row("mixed", String::new(), whole, RECORDS);
-    row("empty log", String::new(), times(&vec![Vec::new(); LOGS]), 1);
-    let ratio = whole[0] / whole[1];
-    println!("mixed: {ratio:.2} times the baseline; the goal is at most {GOAL}{}", if ratio <= GOAL { "" } else { ": NOT MET" });
+    met.push(row("mixed", String::new(), times(&mixed), RECORDS, MIXED_GOAL));
+    met.push(row("empty log", String::new(), times(&vec![Vec::new(); LOGS]), 1, EMPTY_GOAL));
+    println!("{} of {} logs over their goal", met.iter().filter(|met| !**met).count(), met.len());
 }

@@ -1,5 +1,6 @@
 -- 01, "What must change shape": IPI crosses the boundary as five bytes a CPU.
-use Prim.Native.Nat.{ℕ, zero, suc, _+_, _*_}
+use mathlib.Core.Path.{_≡_}
+use Prim.Native.Nat.{ℕ, zero, suc, _+_, _*_, _<_}
 use mathlib.Core.Bool.{Bool, true, _&&_, cond}
 use mathlib.Core.List.{List, [], _∷_}
 use lib.Dec.{eqb, leb}
@@ -28,6 +29,10 @@ cpuOfBytes bs at =
 unfoldable pub cpusOfBytes : List ℕ → ℕ → List CpuRecord
 cpusOfBytes bs zero = replicate 16 noCpu
 cpusOfBytes bs (suc i) = set (cpusOfBytes bs i) i (cpuOfBytes bs (5 * i))
+
+-- An array has each of the first num CPUs in its place.
+abbrev pub InPlaces : List ℕ → ℕ → List CpuRecord → Type 0
+InPlaces bs num cpus = (i : ℕ) → i < num → getD cpus i noCpu ≡ cpuOfBytes bs (5 * i)
 
 -- Active is 0 or 1, for each of the first num CPUs.
 unfoldable pub activeBytes : List ℕ → ℕ → Bool

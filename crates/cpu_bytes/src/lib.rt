@@ -5,11 +5,10 @@
 ghost use mathlib.Core.Path.{_≡_};
 ghost use Prim.Native.Nat.{_+_, _*_, _≤_};
 ghost use lib.ListN.{length};
-ghost use Rattle.words.specs.Bit.{bitsOf};
-ghost use Rattle.ipi.specs.Ipi.{ipiSays, eligible};
+ghost use Rattle.ipi.specs.Ipi.{ipiSays};
 ghost use Rattle.cpu_bytes.specs.Cpus.{
   cpuOfBytes,
-  cpusOfBytes,
+  InPlaces,
   activeBytes,
   ipiMaskOfBytes,
 };
@@ -25,49 +24,38 @@ fn cpu_at(cpus: &[u8], at: usize) -> CpuRecord
     requires { ⌜ at + 5 ≤ length (now cpus) ⌝ }
     ensures { λ r. ⌜ r ≡ cpuOfBytes (now (cpus .entry)) at ⌝ }
 {
-    let bits = record::join(cpus[at + 1], cpus[at + 2], cpus[at + 3], cpus[at + 4]);
-    let priority = record::signed(bits);
+    let bits = high_first::join(cpus[at + 1], cpus[at + 2], cpus[at + 3], cpus[at + 4]);
+    let priority = high_first::signed(bits);
     CpuRecord {
         active: cpus[at] == 1,
         priority,
     }
 }
 
-// What a pass over the bytes finds: whether each active byte is 0 or 1, and the bits of the CPUs that get the interrupt.
-struct Passed {
-    valid: bool,
-    mask: u32,
-}
-
-// One pass over the bytes, with no array of records: to write sixteen and read them again costs more than the rule.
-fn pass(
-    current_cpu: u32,
-    target_prio: i32,
-    target_cpu_mask: u32,
-    cpus: &[u8],
-    num_cpus: u32,
-) -> Passed
-    requires { ⌜ («num_cpus» ≤ 16) × (length (now cpus) ≡ 5 * «num_cpus») ⌝ }
-    ensures valid { λ r. ⌜ r .valid ≡ activeBytes (now (cpus .entry)) «num_cpus» ⌝ }
-    ensures mask { λ r. ⌜ r .mask ≡ bitsOf (eligible «current_cpu» «target_prio» «target_cpu_mask» (cpusOfBytes (now (cpus .entry)) «num_cpus»)) «num_cpus» ⌝ }
+// The CPUs below num_cpus, each in its place, and whether each active byte is 0 or 1. The places from num_cpus on repeat the first CPU: no rule
+// looks at them, and a record at hand fills them fastest. The array alone is returned, since a struct around it would be copied.
+fn decode(cpus: &[u8], num_cpus: u32, valid: &mut bool) -> [CpuRecord; 16]
+    requires { ⌜ (1 ≤ «num_cpus») × ((«num_cpus» ≤ 16) × (length (now cpus) ≡ 5 * «num_cpus»)) ⌝ }
+    ensures records { λ r. ⌜ InPlaces (now (cpus .entry)) «num_cpus» r ⌝ }
+    ensures valid { λ _. ⌜ now (valid .exit) ≡ activeBytes (now (cpus .entry)) «num_cpus» ⌝ }
 {
-    let mut valid = true;
-    let mut mask: u32 = 0;
-    let mut idx: u32 = 0;
+    let first = cpu_at(cpus, 0);
+    let mut records = [first; 16];
+    let mut all = cpus[0] <= 1;
+    let mut idx: u32 = 1;
     while idx < num_cpus {
-        let at = CPU_BYTES * (idx as usize);
+        let i = idx as usize;
+        let at = CPU_BYTES * i;
         let active = cpus[at];
-        valid = valid & (active <= 1);
-        let cpu = cpu_at(cpus, at);
-        if ipi::gets_ipi(current_cpu, target_prio, target_cpu_mask, idx, cpu) {
-            mask = mask | (1u32 << idx);
-        }
+        all = all & (active <= 1);
+        records[i] = cpu_at(cpus, at);
         idx += 1;
     }
-    Passed { valid, mask }
+    *valid = all;
+    records
 }
 
-// The mask of the CPUs to interrupt, from bytes. The counts are tested first, so that five times the number of CPUs is small.
+// The mask of the CPUs to interrupt, from bytes. The number of CPUs is tested first, so that there is a first one and a place for each.
 pub fn ipi_mask_of_bytes(
     current_cpu: u32,
     target_prio: i32,
@@ -82,18 +70,26 @@ pub fn ipi_mask_of_bytes(
         code: Code::Einval,
         mask: 0,
     };
-    if !ipi::counts_fit(current_cpu, num_cpus, max_cpus) {
+    if num_cpus < 1 {
+        return refused;
+    }
+    if ipi::MAX_IPI_CPUS < num_cpus {
         return refused;
     }
     if cpus.len() != CPU_BYTES * (num_cpus as usize) {
         return refused;
     }
-    let passed = pass(current_cpu, target_prio, target_cpu_mask, cpus, num_cpus);
-    if !passed.valid {
+    let mut valid = false;
+    let answer = ipi::compute_ipi_mask(
+        current_cpu,
+        target_prio,
+        target_cpu_mask,
+        decode(cpus, num_cpus, &mut valid),
+        num_cpus,
+        max_cpus,
+    );
+    if !valid {
         return refused;
     }
-    IpiMask {
-        code: Code::Ok,
-        mask: passed.mask,
-    }
+    answer
 }

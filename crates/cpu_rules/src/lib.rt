@@ -2,13 +2,20 @@
 // from the values of the cells that it names to their new values and an answer. A rule never sees the machine, so it reads and writes nothing
 // else.
 //
-// New here; the definitions are in the crate rules, masks go by the crate cpu_mask. A refusal hands every cell back as it was.
+// New here; the definitions are in the crate rules, masks go by the crate cpu_mask. A caller can rely on this: a refusal, of numbers that no
+// record may carry too, hands every cell back as it was.
 ghost use mathlib.Core.Path.{_≡_};
 ghost use Rattle.order.specs.Outcome.{appliedTo};
-ghost use Rattle.machine.specs.State.{isCurrent, idleRun};
+ghost use mathlib.Core.Bool.{_&&_};
+ghost use Rattle.machine.specs.State.{hasCpu, isThread, isCurrent, idleRun};
 ghost use Rattle.rules.specs.Rules.{
   runSays,
   seatSays,
+  cpuSays,
+  ranged,
+  withRun,
+  withSeat,
+  onCpu,
   occupied,
   up as Rules·up,
   down as Rules·down,
@@ -16,12 +23,17 @@ ghost use Rattle.rules.specs.Rules.{
   take as Rules·take,
 };
 use error::Code;
+use machine::Cpu;
 use machine::CpuId;
 use machine::Current;
 use machine::Place;
 use machine::Run;
+use machine::Setup;
 use machine::Thread;
 use machine::ThreadId;
+use record::CpuOperation;
+use rules::Answered;
+use rules::CpuOut;
 use rules::RunOut;
 use rules::SeatOut;
 
@@ -54,7 +66,7 @@ fn idle_run(active: bool) -> Run
 }
 
 // 0: the CPU comes up.
-pub fn up(run: Run) -> RunOut
+fn up(run: Run) -> RunOut
     ensures { λ r. ⌜ runSays r ≡ appliedTo run (Rules·up run) ⌝ }
 {
     if run.active {
@@ -70,7 +82,7 @@ pub fn up(run: Run) -> RunOut
 }
 
 // 1: the CPU goes down.
-pub fn down(run: Run) -> RunOut
+fn down(run: Run) -> RunOut
     ensures { λ r. ⌜ runSays r ≡ appliedTo run (Rules·down run) ⌝ }
 {
     if !run.active {
@@ -93,7 +105,7 @@ pub fn down(run: Run) -> RunOut
 }
 
 // 2: a thread comes onto the CPU.
-pub fn put(c: CpuId, t: ThreadId, run: Run, thread: Thread) -> SeatOut
+fn put(c: CpuId, t: ThreadId, run: Run, thread: Thread) -> SeatOut
     ensures { λ r. ⌜ seatSays r ≡ appliedTo (run, thread) (Rules·put (c .0) (t .0) run thread) ⌝ }
 {
     if !run.active {
@@ -135,7 +147,7 @@ pub fn put(c: CpuId, t: ThreadId, run: Run, thread: Thread) -> SeatOut
 }
 
 // 3: the thread leaves the CPU.
-pub fn take(t: ThreadId, hold: u32, run: Run, thread: Thread) -> SeatOut
+fn take(t: ThreadId, hold: u32, run: Run, thread: Thread) -> SeatOut
     ensures { λ r. ⌜ seatSays r ≡ appliedTo (run, thread) (Rules·take (t .0) hold run thread) ⌝ }
 {
     let current = run.current;
@@ -161,5 +173,68 @@ pub fn take(t: ThreadId, hold: u32, run: Run, thread: Thread) -> SeatOut
             priority: thread.priority,
             place: Place::Nowhere,
         },
+    }
+}
+
+// The CPU with a run cell after an operation, and the thread as it was.
+fn with_run(o: RunOut, cpu: Cpu, thread: Thread) -> CpuOut
+    ensures { λ r. ⌜ cpuSays r ≡ withRun (runSays o) cpu thread ⌝ }
+{
+    let code = o.code;
+    let run = o.run;
+    CpuOut {
+        answer: Answered { code, value: 0 },
+        cpu: Cpu {
+            run,
+            hold: cpu.hold,
+        },
+        thread,
+    }
+}
+
+// The CPU and the thread after an operation that seats or unseats the thread.
+fn with_seat(o: SeatOut, cpu: Cpu) -> CpuOut
+    ensures { λ r. ⌜ cpuSays r ≡ withSeat (seatSays o) cpu ⌝ }
+{
+    let code = o.code;
+    let run = o.run;
+    let thread = o.thread;
+    CpuOut {
+        answer: Answered { code, value: 0 },
+        cpu: Cpu {
+            run,
+            hold: cpu.hold,
+        },
+        thread,
+    }
+}
+
+// 0 to 3, on a machine of this setup: the CPU and the thread after the operation.
+pub fn on_cpu(
+    setup: Setup,
+    operation: CpuOperation,
+    c: CpuId,
+    t: ThreadId,
+    cpu: Cpu,
+    thread: Thread,
+) -> CpuOut
+    ensures { λ r. ⌜ cpuSays r ≡ ranged (hasCpu setup (c .0) && isThread (t .0)) (cpu, thread) (onCpu operation (c .0) (t .0) cpu thread) ⌝ }
+{
+    if !(setup.has_cpu(c) & t.exists()) {
+        return CpuOut {
+            answer: Answered {
+                code: Code::Einval,
+                value: 0,
+            },
+            cpu,
+            thread,
+        };
+    }
+    let run = cpu.run;
+    match operation {
+        CpuOperation::Up => with_run(up(run), cpu, thread),
+        CpuOperation::Down => with_run(down(run), cpu, thread),
+        CpuOperation::Put => with_seat(put(c, t, run, thread), cpu),
+        CpuOperation::Take => with_seat(take(t, cpu.hold, run, thread), cpu),
     }
 }

@@ -25,8 +25,62 @@ use ghost.Atoms.{Atoms, sem}
 use contract.Lifetimes.{Lfts}
 use contract.Monad.{fact}
 use contract.Running.{GhostRules, Running, givenOf, tables, tablesOf}
-use types.Kit.{Given, ‵, raw, _⊛_, some, later, _$_, _∵_, !, qed, by, move, keep, drop, use1, split, join, pick, rewrite, fsplit, fsplit3, fjoin, fjoin3, feqI, suffices, frame, await, done}
-use types.Run.{look, look-raw, init, store-raw, forget, stop, hop, fld, from, load, of-opd, and-then, no-more, assigns, land, returns, enter, alloc1, alloc0, params1, pass1, pass0, free1, free0}
+use types.Kit.{
+  Given,
+  ‵,
+  raw,
+  _⊛_,
+  some,
+  later,
+  _$_,
+  _∵_,
+  !,
+  qed,
+  by,
+  move,
+  keep,
+  drop,
+  use1,
+  split,
+  join,
+  pick,
+  rewrite,
+  fsplit,
+  fsplit3,
+  fjoin,
+  fjoin3,
+  feqI,
+  suffices,
+  frame,
+  await,
+  done,
+}
+use types.Run.{
+  look,
+  look-raw,
+  init,
+  store-raw,
+  forget,
+  stop,
+  hop,
+  fld,
+  from,
+  load,
+  of-opd,
+  and-then,
+  no-more,
+  assigns,
+  land,
+  returns,
+  enter,
+  alloc1,
+  alloc0,
+  params1,
+  pass1,
+  pass0,
+  free1,
+  free0,
+}
 use types.Part.{whole, sub, look-in}
 use types.SemTy.{Body}
 use sound.WpLaws.{FmC, fmOf, WpFn-mono}

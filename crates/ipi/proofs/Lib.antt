@@ -1,3 +1,4 @@
 pub mod Laws
 pub mod Upstream
 pub mod OneResult
+pub mod Walk

@@ -4,10 +4,10 @@
 // The two slices of upstream are one array of sixteen CPU records by value; records from num_cpus on are not looked at. Upstream promises
 // nothing of the mask; here its value is exact, and proofs/Laws.antt says of every bit when it is set. A lower number is more important.
 ghost use mathlib.Core.Path.{_≡_};
-ghost use Prim.Native.Nat.{_≤_};
+ghost use mathlib.Core.Bool.{_&&_};
+ghost use lib.Signed.{ltZ};
 ghost use Rattle.error.specs.Answer.{yesNoSays};
-ghost use Rattle.words.specs.Bit.{bitsOf};
-ghost use Rattle.ipi.specs.Ipi.{gets, eligible, countsFit, ipiSays, computeIpiMask, validateIpiMask};
+ghost use Rattle.ipi.specs.Ipi.{countsFit, ipiSays, computeIpiMask, validateIpiMask};
 use error::Code;
 use error::YesNo;
 
@@ -26,54 +26,24 @@ pub struct IpiMask {
     pub mask: u32,
 }
 
-// Whether the CPU with this record gets the interrupt.
-pub fn gets_ipi(
-    current_cpu: u32,
-    target_prio: i32,
-    target_cpu_mask: u32,
-    idx: u32,
-    cpu: CpuRecord,
-) -> bool
-    ensures { λ r. ⌜ r ≡ gets «current_cpu» «target_prio» «target_cpu_mask» idx cpu ⌝ }
+// Whether a CPU is up and runs something less important than the target.
+fn runs_less(target_prio: i32, cpu: CpuRecord) -> bool
+    ensures { λ r. ⌜ r ≡ cpu .active && ltZ «target_prio» (cpu .priority) ⌝ }
 {
     let active = cpu.active;
     let priority = cpu.priority;
-    let allowed = cpu_mask::allows(target_cpu_mask, idx);
-    (idx != current_cpu) & (active & (allowed & (target_prio < priority)))
-}
-
-// The bits of the CPUs below num_cpus that get the interrupt.
-fn eligible_cpus(
-    current_cpu: u32,
-    target_prio: i32,
-    target_cpu_mask: u32,
-    cpus: [CpuRecord; 16],
-    num_cpus: u32,
-) -> u32
-    requires { ⌜ «num_cpus» ≤ 16 ⌝ }
-    ensures { λ r. ⌜ r ≡ bitsOf (eligible «current_cpu» «target_prio» «target_cpu_mask» cpus) «num_cpus» ⌝ }
-{
-    let mut mask: u32 = 0;
-    let mut idx: u32 = 0;
-    while idx < num_cpus {
-        let at = idx as usize;
-        let cpu = cpus[at];
-        if gets_ipi(current_cpu, target_prio, target_cpu_mask, idx, cpu) {
-            mask = mask | (1u32 << idx);
-        }
-        idx += 1;
-    }
-    mask
+    active & (target_prio < priority)
 }
 
 // Whether there are at most so many CPUs as are allowed, and the current one is among them.
-pub fn counts_fit(current_cpu: u32, num_cpus: u32, max_cpus: u32) -> bool
+fn counts_fit(current_cpu: u32, num_cpus: u32, max_cpus: u32) -> bool
     ensures { λ r. ⌜ r ≡ countsFit «current_cpu» «num_cpus» «max_cpus» ⌝ }
 {
     (max_cpus <= MAX_IPI_CPUS) & ((num_cpus <= max_cpus) & (current_cpu < num_cpus))
 }
 
-// The mask of the CPUs to interrupt for a thread of this priority and affinity.
+// The mask of the CPUs to interrupt for a thread of this priority and affinity. The walk looks at the records alone; affinity and the current
+// CPU are two masks over what it finds. It stands here and not in a function of its own, to which the array would be copied.
 pub fn compute_ipi_mask(
     current_cpu: u32,
     target_prio: i32,
@@ -90,9 +60,20 @@ pub fn compute_ipi_mask(
             mask: 0,
         };
     }
+    let mut less: u32 = 0;
+    let mut idx: u32 = 0;
+    while idx < num_cpus {
+        let at = idx as usize;
+        let cpu = cpus[at];
+        if runs_less(target_prio, cpu) {
+            less = less | (1u32 << idx);
+        }
+        idx += 1;
+    }
+    let others = !(1u32 << current_cpu);
     IpiMask {
         code: Code::Ok,
-        mask: eligible_cpus(current_cpu, target_prio, target_cpu_mask, cpus, num_cpus),
+        mask: less & (target_cpu_mask & others),
     }
 }
 

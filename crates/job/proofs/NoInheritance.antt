@@ -6,17 +6,15 @@ use mathlib.Core.Bool.{Bool, true, false, _&&_, _||_, not, cond, false≢true}
 use mathlib.Core.List.{List, [], _∷_}
 use Prim.Native.Nat.{ℕ, zero, suc, _<_}
 use native.Mathlib.Omega.{arith}
-use lib.Dec.{eqb, ltb}
-use borrow.Author.Tests.{ltb-true, ne-eqb}
+use lib.Dec.{eqb}
+use borrow.Author.Tests.{ne-eqb}
 use Rattle.error.specs.Codes.{isOK}
 use Rattle.error.specs.Answer.{Answer}
 use Rattle.words.specs.Bit.{bit}
 use Rattle.words.specs.Tag.{cpuOf, threadOf}
-use Rattle.words.proofs.Choice.{and-left, and-right}
-use Rattle.words.proofs.Tags.{thread-back}
-use Rattle.spinlock_validate.specs.Owner.{tagBits}
+use Rattle.words.proofs.Tags.{word-thread, thread-nonzero, thread-alone}
 use Rattle.spinlock.specs.declared.Owner.{Owner}
-use Rattle.machine.specs.State.{cpuSlots, threadCount, lockCount, threadWord, isCurrent, cpuAt, threadAt, lockAt}
+use Rattle.machine.specs.State.{cpuSlots, threadCount, lockCount, tagBits, threadWord, isCurrent, cpuAt, threadAt, lockAt}
 use Rattle.machine.specs.declared.Current.{Current}
 use Rattle.machine.specs.declared.Place.{Place}
 use Rattle.machine.specs.declared.Run.{Run}
@@ -27,14 +25,15 @@ use Rattle.machine.specs.declared.ThreadId.{ThreadId}
 use Rattle.machine.specs.declared.Machine.{Machine}
 use Rattle.order.specs.Outcome.{Outcome, refuse, accept, answerOf}
 use Rattle.order.specs.Cells.{commit}
-use Rattle.record.specs.Record.{requestOf}
-use Rattle.record.specs.declared.Request.{Request}
-use Rattle.record.proofs.Range.{inRange, request-in-range}
+use Rattle.record.specs.Record.{request}
+use Rattle.record.specs.declared.CpuOperation.{CpuOperation}
+use Rattle.record.specs.declared.Operation.{Operation}
 use Rattle.rules.specs.Rules as Rules
-use Rattle.runner.specs.Cells.{run, thread, machineStore}
-use Rattle.runner.specs.Operations.{two}
-use Rattle.runner.specs.Step.{answered, next}
-use Rattle.wellformed.specs.WellFormed.{names, depthFor, sumBelow, wellFormed}
+use Rattle.operations.specs.Cells.{run, thread, machineStore}
+use Rattle.operations.specs.Operations.{two}
+use Rattle.operations.specs.Asked.{answered, next}
+use Rattle.element_tests.specs.Elements.{names, depthFor}
+use Rattle.wellformed.specs.WellFormed.{sumBelow, wellFormed}
 use Rattle.wellformed.proofs.Facts.{WellFormed, says}
 use Rattle.kept.proofs.Apart.{none-or-thread, nowhere-or-on}
 use Rattle.kept.proofs.Lengths.{Lengths}
@@ -42,6 +41,8 @@ use Rattle.kept.proofs.Stored.{cpu-there, thread-there}
 use Rattle.kept.proofs.Accepted.{Accepting, Puts, put-accepted, Takes, take-accepted}
 use Rattle.kept.proofs.Seats.{reseated}
 use Rattle.kept.proofs.Seated.{take-kept}
+use Rattle.kept.proofs.Tagged.{cpu-fits}
+use Rattle.kept.proofs.Ranges.{asks-in-range}
 use Rattle.job.specs.Job.{OwnsNothing, HoldsNothing, Accepted}
 
 -- A lock is free, or some thread's.
@@ -66,14 +67,12 @@ module _ (m : Machine) (w : WellFormed m) where
       nowhere-or-on (sym nowhere ∙ w .current _ (omega (arith, w .few)) (record { 0 = t }) (was .current) .place)
 
   -- The thread word in a lock's word is its owner's.
-  word-thread : (l : ℕ) → l < lockCount → (t : ℕ) → lockAt m l .state .owner ≡ Owner.Thread t
-      → threadOf tagBits (lockAt m l .word) ≡ threadWord t
-  word-thread l h t e =
+  owner-word : (l : ℕ) → l < lockCount → (t : ℕ) → lockAt m l .state .owner ≡ Owner.Thread t
+      → threadOf (tagBits (m .setup)) (lockAt m l .word) ≡ threadWord (m .setup) t
+  owner-word l h t e =
+      let k = tagBits (m .setup) in
       let was = w .held l h t e in
-      let below = was .below in
-      let few = w .few in
-      ap (threadOf tagBits) (was .word)
-      ∙ thread-back tagBits (cpuOf tagBits (lockAt m l .word)) (threadWord t) (record { below = omega arith; some = omega arith; aligned = omega arith })
+      ap (threadOf k) (was .word) ∙ word-thread k (cpuOf k (lockAt m l .word)) t (cpu-fits m w _ (was .below))
 
   -- A thread that has no place owns no lock.
   pub no-place : (t : ℕ) → threadAt m t .place ≡ Place.Nowhere → OwnsNothing m t
@@ -81,21 +80,21 @@ module _ (m : Machine) (w : WellFormed m) where
       record {
         owner = λ l h e. owner-placed l h t e nowhere;
         word = λ l h e. owner-cases ⊥ (lockAt m l .state .owner)
-            (λ none. let z = w .free l h none .word in let z′ : threadOf tagBits (lockAt m l .word) ≡ 0 = rw z in omega arith)
+            (λ none. thread-nonzero (tagBits (m .setup)) _ (sym e ∙ rw (w .free l h none .word) (omega arith)))
             (λ u some.
-            let same : u ≡ t = let d = word-thread l h u some in omega arith in
+            let same : u ≡ t = thread-alone (tagBits (m .setup)) u t (sym (owner-word l h u some) ∙ e) in
             owner-placed l h u some (rw same nowhere));
       }
 
   -- A CPU that has no thread holds no lock.
-  no-thread : (c : ℕ) → cpuAt m c .run .current ≡ Current.None → (l : ℕ) → l < lockCount → names (lockAt m l .word) c ≡ false
+  no-thread : (c : ℕ) → cpuAt m c .run .current ≡ Current.None → (l : ℕ) → l < lockCount → names (m .setup) (lockAt m l .word) c ≡ false
   no-thread c idle l h =
-      owner-cases (names (lockAt m l .word) c ≡ false) (lockAt m l .state .owner)
+      owner-cases (names (m .setup) (lockAt m l .word) c ≡ false) (lockAt m l .state .owner)
       (λ none. rw (w .free l h none .word))
       (λ t some.
-      let other : cpuOf tagBits (lockAt m l .word) ≢ c = λ e.
+      let other : cpuOf (tagBits (m .setup)) (lockAt m l .word) ≢ c = λ e.
       none-or-thread (sym idle ∙ ap (λ x. cpuAt m x .run .current) (sym e) ∙ w .held l h t some .current) in
-      and-false (not (eqb (lockAt m l .word) 0)) (eqb (cpuOf tagBits (lockAt m l .word)) c) (ne-eqb _ _ other))
+      and-false (not (eqb (lockAt m l .word) 0)) (eqb (cpuOf (tagBits (m .setup)) (lockAt m l .word)) c) (ne-eqb _ _ other))
     where
       and-false : (a b : Bool) → b ≡ false → a && b ≡ false
       and-false true b e = e
@@ -105,7 +104,7 @@ module _ (m : Machine) (w : WellFormed m) where
   no-current c h idle =
       record {
         word = no-thread c idle;
-        hold = w .hold c h ∙ sum-of-zeros (λ l. depthFor (lockAt m l) c) lockCount (λ l b. rw (no-thread c idle l b));
+        hold = w .hold c h ∙ sum-of-zeros (λ l. depthFor (m .setup) (lockAt m l) c) lockCount (λ l b. rw (no-thread c idle l b));
       }
 
 -- A refusal never has the code OK.
@@ -128,7 +127,8 @@ put-honest c t r k =
     (honest-past (Rules.occupied (r .current) || Rules.placed (k .place)) _ _ refl (honest-past (not (bit c (k .mask))) _ _ refl tt))
 
 -- A put or a take that answers OK has stored a run and a thread.
-seat-done : (m : Machine) (c t : ℕ) (Q : Run × Thread → Type 0) (P : Machine → Type 0) (o : Outcome (Answer ℕ) (Run × Thread)) → Accepting Q o → Honest o
+seat-done : (m : Machine) (c t : ℕ) (Q : Run × Thread → Type 0) (P : Machine → Type 0) (o : Outcome (Answer ℕ) (Run × Thread)) → Accepting Q o
+    → Honest o
     → isOK (answerOf (two o) .code) ≡ true → ((v : Run × Thread) → Q v → P (reseated m c t (v .0) (v .1)))
     → P (commit machineStore (Answer ℕ) (run c ∷ thread t ∷ []) (two o) m)
 seat-done m c t Q P (refuse a) q honest ok f = absurd (false≢true (sym honest ∙ ok))
@@ -138,7 +138,7 @@ seat-done m c t Q P (accept a v) q honest ok f = f v q
 abbrev Nothing : ℕ → ℕ → Machine → Type 0
 Nothing c t m = OwnsNothing m t × HoldsNothing m c
 
-module _ (m : Machine) (s : Lengths m) (w : WellFormed m) (c t : ℕ) (hc : c < m .n) (ht : t < threadCount) where
+module _ (m : Machine) (s : Lengths m) (w : WellFormed m) (c t : ℕ) (hc : c < m .setup .n) (ht : t < threadCount) where
   inside : c < cpuSlots
   inside = let few = w .few in omega arith
 
@@ -159,31 +159,28 @@ module _ (m : Machine) (s : Lengths m) (w : WellFormed m) (c t : ℕ) (hc : c < 
         record { word = holds .word; hold = ap (λ (x : Cpu). x .hold) (cpu-there m s c _ inside) ∙ holds .hold },
       )
 
--- Right after an accepted take, and right after an accepted put, no lock's record or word names that thread, nor that CPU.
+-- Right after an accepted take, and right after an accepted put, no lock's record or word names that thread, nor that CPU. (Neither uses a lock:
+-- its number z is any.)
 module _ (m : Machine) (s : Lengths m) (good : wellFormed m ≡ true) (bytes : List ℕ) (c : CpuId) (t : ThreadId) where
-  in-range : (r : Request) → requestOf (m .n) bytes ≡ r → inRange (m .n) r ≡ true
-  in-range r e = ap (inRange (m .n)) (sym e) ∙ request-in-range (m .n) bytes
-
-  pub after-take : Accepted m bytes (Request.Take c t) → Nothing (c .0) (t .0) (next m bytes)
+  pub after-take : {z : ℕ} → Accepted m bytes (request (Operation.OnCpu CpuOperation.Take) (c .0) (t .0) z) → Nothing (c .0) (t .0) (next m bytes)
   unfolding next answered
   after-take a =
-      let e = in-range (Request.Take c t) (a .asks) in
-      let hc = ltb-true (c .0) (m .n) (and-left (ltb (c .0) (m .n)) _ e) in
-      let ht = ltb-true (t .0) threadCount (and-right (ltb (c .0) (m .n)) _ e) in
+      let w = says m good in
+      let range = rw (a .asks) at (asks-in-range m w bytes) in
+      let r = cpuAt m (c .0) .run in
+      let h = cpuAt m (c .0) .hold in
+      let k = threadAt m (t .0) in
       rw (a .asks)
-      (seat-done m (c .0) (t .0) _ (Nothing (c .0) (t .0)) (Rules.take (t .0) (cpuAt m (c .0) .hold) (cpuAt m (c .0) .run) (threadAt m (t .0)))
-      (take-accepted (t .0) (cpuAt m (c .0) .hold) (cpuAt m (c .0) .run) (threadAt m (t .0)))
-      (take-honest (t .0) (cpuAt m (c .0) .hold) (cpuAt m (c .0) .run) (threadAt m (t .0)))
-      (rw (a .asks) at (a .ok)) (taken-off m s (says m good) (c .0) (t .0) hc ht))
+      (seat-done m (c .0) (t .0) _ (Nothing (c .0) (t .0)) (Rules.take (t .0) h r k) (take-accepted (t .0) h r k) (take-honest (t .0) h r k)
+      (rw (a .asks) at (a .ok)) (taken-off m s w (c .0) (t .0) (range .cpu) (range .thread)))
 
-  pub after-put : Accepted m bytes (Request.Put c t) → Nothing (c .0) (t .0) (next m bytes)
+  pub after-put : {z : ℕ} → Accepted m bytes (request (Operation.OnCpu CpuOperation.Put) (c .0) (t .0) z) → Nothing (c .0) (t .0) (next m bytes)
   unfolding next answered
   after-put a =
-      let e = in-range (Request.Put c t) (a .asks) in
-      let hc = ltb-true (c .0) (m .n) (and-left (ltb (c .0) (m .n)) _ e) in
-      let ht = ltb-true (t .0) threadCount (and-right (ltb (c .0) (m .n)) _ e) in
+      let w = says m good in
+      let range = rw (a .asks) at (asks-in-range m w bytes) in
+      let r = cpuAt m (c .0) .run in
+      let k = threadAt m (t .0) in
       rw (a .asks)
-      (seat-done m (c .0) (t .0) _ (Nothing (c .0) (t .0)) (Rules.put (c .0) (t .0) (cpuAt m (c .0) .run) (threadAt m (t .0)))
-      (put-accepted (c .0) (t .0) (cpuAt m (c .0) .run) (threadAt m (t .0)))
-      (put-honest (c .0) (t .0) (cpuAt m (c .0) .run) (threadAt m (t .0)))
-      (rw (a .asks) at (a .ok)) (put-on m s (says m good) (c .0) (t .0) hc ht))
+      (seat-done m (c .0) (t .0) _ (Nothing (c .0) (t .0)) (Rules.put (c .0) (t .0) r k) (put-accepted (c .0) (t .0) r k) (put-honest (c .0) (t .0) r k)
+      (rw (a .asks) at (a .ok)) (put-on m s w (c .0) (t .0) (range .cpu) (range .thread)))

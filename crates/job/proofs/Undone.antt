@@ -6,26 +6,23 @@ use mathlib.Core.List.{List, [], _∷_}
 use Prim.Native.Nat.{ℕ, zero, suc, _-_, _<_}
 use native.Mathlib.Omega.{arith}
 use lib.ListN.{set, getD}
-use lib.Dec.{ltb}
-use borrow.Author.Tests.{ltb-true, lt-ltb, eq-eqb}
+use borrow.Author.Tests.{lt-ltb}
 use Rattle.error.specs.Codes.{OK, isOK}
 use Rattle.error.specs.Answer.{Answer, answer}
 use Rattle.words.specs.Tag.{wordOf}
-use Rattle.words.proofs.Choice.{and-left, and-right}
-use Rattle.words.proofs.Tags.{Taggable}
-use Rattle.spinlock_validate.specs.Owner.{tagBits}
-use Rattle.spinlock_validate.proofs.Laws.{makes, unlock-own}
+use Rattle.words.proofs.Tags.{word-taggable}
+use Rattle.spinlock_validate.proofs.Laws.{Makes, makes, unlock-own}
 use Rattle.error.proofs.Answers.{same-value}
 use Rattle.spinlock.specs.Table.{codeOf}
-use Rattle.spinlock.specs.Lock.{maxNestDepth, freeRecord, takenBy, deeper, validRecord, situationOf, after, operate}
+use Rattle.spinlock.specs.Lock.{maxNestDepth, freeRecord, takenBy, deeper, validRecord, situationAt, after, operate}
 use Rattle.spinlock.specs.declared.Owner.{Owner}
 use Rattle.spinlock.specs.declared.SpinlockState.{SpinlockState}
-use Rattle.spinlock.specs.declared.Operation.{Operation}
+use Rattle.spinlock.specs.declared.Operation.{Operation as LockOperation}
 use Rattle.spinlock.proofs.Situations.{HeldBy, below-is-own}
 use Rattle.spinlock.proofs.Laws.{operated, nested, release-undoes, acquire-then-release}
 use Rattle.order.specs.Outcome.{Outcome, refuse, accept, answerOf}
 use Rattle.order.specs.Cells.{commit}
-use Rattle.machine.specs.State.{cpuSlots, lockCount, threadWord, noCpu, freeLock, cpuAt, lockAt}
+use Rattle.machine.specs.State.{cpuSlots, threadCount, lockCount, isThread, tagBits, threadWord, noCpu, freeLock, cpuAt, lockAt}
 use Rattle.machine.specs.declared.Current.{Current}
 use Rattle.machine.specs.declared.CpuId.{CpuId}
 use Rattle.machine.specs.declared.LockId.{LockId}
@@ -33,79 +30,90 @@ use Rattle.machine.specs.declared.Run.{Run}
 use Rattle.machine.specs.declared.Cpu.{Cpu}
 use Rattle.machine.specs.declared.Lock.{Lock}
 use Rattle.machine.specs.declared.Machine.{Machine}
-use Rattle.record.specs.declared.Request.{Request}
-use Rattle.record.proofs.Range.{inRange, request-in-range}
+use Rattle.record.specs.Record.{request}
+use Rattle.record.specs.declared.Operation.{Operation}
 use Rattle.rules.specs.Rules.{elsewhere, ruled, wordAfter, settled, lockBy, lockOp, moved}
 use Rattle.wellformed.specs.WellFormed.{wellFormed}
 use Rattle.wellformed.proofs.Facts.{Runs, WellFormed, says}
-use Rattle.runner.specs.Cells.{hold, lock, put, machineStore}
-use Rattle.runner.specs.Operations.{withHold}
-use Rattle.runner.specs.Step.{answered, next}
+use Rattle.operations.specs.Cells.{hold, lock, put, machineStore}
+use Rattle.operations.specs.Operations.{withHold}
+use Rattle.operations.specs.Asked.{answered, next}
 use Rattle.kept.proofs.Depths.{hold-most}
 use Rattle.kept.proofs.Lengths.{Lengths}
 use Rattle.kept.proofs.Stored.{cpu-there, lock-there}
-use Rattle.kept.proofs.Walk.{Ways, Told, walked}
+use Rattle.kept.proofs.Walk.{leaves, Ways, Told, walked}
 use Rattle.kept.proofs.Locked.{named, lock-valid}
+use Rattle.kept.proofs.Tagged.{cpu-fits}
+use Rattle.kept.proofs.Ranges.{asks-in-range}
 use Rattle.job.specs.Job.{Accepted, Gives}
 
 -- A release of this lock, by the CPU's thread, gives back the lock of the machine.
 pub record Undone (m : Machine) (c l : ℕ) (v : Lock) : Type 0 where
-  pub back : lockOp Operation.Release c (cpuAt m c .run) v ≡ accept (answer OK (lockAt m l .state .«nest_count»)) (lockAt m l)
+  pub back : lockOp (m .setup) LockOperation.Release c (cpuAt m c .run) v ≡ accept (answer OK (lockAt m l .state .«nest_count»)) (lockAt m l)
 
 -- Of a nested acquire that is to be shown, and of the other operations nothing.
-abbrev UndoneBy : Machine → ℕ → ℕ → Operation → Lock → Type 0
-UndoneBy m c l Operation.Acquire v = Unit {0}
-UndoneBy m c l Operation.Nested v = Undone m c l v
-UndoneBy m c l Operation.Release v = Unit {0}
+abbrev UndoneBy : Machine → ℕ → ℕ → LockOperation → Lock → Type 0
+UndoneBy m c l LockOperation.Acquire v = Unit {0}
+UndoneBy m c l LockOperation.Nested v = Undone m c l v
+UndoneBy m c l LockOperation.Release v = Unit {0}
 
-module _ (m : Machine) (w : WellFormed m) (c l t : ℕ) (hc : c < m .n) (hl : l < lockCount) (runs : Runs m c t) where
-  taggable : Taggable tagBits c (threadWord t)
-  taggable = let few = w .few in record { below = omega arith; some = omega arith; aligned = omega arith }
+module _ (m : Machine) (w : WellFormed m) (c l t : ℕ) (hc : c < m .setup .n) (hl : l < lockCount) (runs : Runs m c t) where
+  -- The word that CPU c and thread t make.
+  abbrev ours : ℕ
+  ours = wordOf c (threadWord (m .setup) t)
 
-  -- Thread t's lock whose word is that of c and t is not elsewhere.
-  here : (v : Lock) → v .state .owner ≡ Owner.Thread t → v .word ≡ wordOf c (threadWord t) → elsewhere c t v ≡ false
-  here v owner word =
-      rw (owner, word, eq-eqb t t refl, same-value (unlock-own tagBits c (threadWord t) (wordOf c (threadWord t)) (makes tagBits c (threadWord t) taggable)))
+  -- They can make it.
+  ours-made : Makes (tagBits (m .setup)) c (threadWord (m .setup) t) ours
+  ours-made = makes (tagBits (m .setup)) c (threadWord (m .setup) t) (word-taggable (tagBits (m .setup)) c t (cpu-fits m w c hc))
 
-  released : (v : Lock) → v .state .owner ≡ Owner.Thread t → v .word ≡ wordOf c (threadWord t)
-      → operate Operation.Release (v .state) t ≡ answer OK (lockAt m l .state) → wordAfter c t v (lockAt m l .state) ≡ lockAt m l .word → Undone m c l v
+  -- Where that is the lock's word, the thread is not elsewhere.
+  here : (v : Lock) → v .word ≡ ours → elsewhere (m .setup) c t v ≡ false
+  here v word = rw (word, same-value (unlock-own (tagBits (m .setup)) c (threadWord (m .setup) t) ours ours-made))
+
+  -- A current thread is one of the machine's.
+  is-thread : isThread t ≡ true
+  is-thread = lt-ltb t threadCount (w .current c (omega (arith, w .few)) (record { 0 = t }) runs .below)
+
+  -- A lock with that word, whose record a release takes back to the machine's, is undone.
+  released : (v : Lock) → v .word ≡ ours → operate LockOperation.Release (v .state) t false ≡ answer OK (lockAt m l .state)
+      → wordAfter (m .setup) c t v (lockAt m l .state) ≡ lockAt m l .word → Undone m c l v
   unfolding lockOp
-  released v owner word rule after-word = record { back = by-current (cpuAt m c .run .current) runs }
+  released v word rule after-word = record { back = by-current (cpuAt m c .run .current) runs }
     where
-      gives : settled c t v (ruled Operation.Release c t v) ≡ accept (answer OK (lockAt m l .state .«nest_count»)) (lockAt m l)
-      gives = rw (here v owner word, rule, after-word)
+      gives : settled (m .setup) c t v (ruled (m .setup) LockOperation.Release c t v) ≡ accept (answer OK (lockAt m l .state .«nest_count»)) (lockAt m l)
+      gives = rw (here v word, rule, after-word)
 
       by-current : (o : Current) → o ≡ Current.Thread (record { 0 = t })
-          → lockBy Operation.Release c o v ≡ accept (answer OK (lockAt m l .state .«nest_count»)) (lockAt m l)
-      by-current o e = rw e gives
+          → lockBy (m .setup) LockOperation.Release c o v ≡ accept (answer OK (lockAt m l .state .«nest_count»)) (lockAt m l)
+      by-current o e = rw (e, is-thread) gives
 
   -- A free lock that was taken, and an own one that went a level up.
-  taken : lockAt m l .state ≡ freeRecord → Undone m c l (record { state = takenBy t; word = wordAfter c t (lockAt m l) (takenBy t) })
-  unfolding operate validRecord situationOf codeOf after
+  taken : lockAt m l .state ≡ freeRecord → Undone m c l (leaves (m .setup) c t (lockAt m l) (takenBy t))
+  unfolding operate validRecord situationAt codeOf after
   taken e =
       let none : lockAt m l .state .owner ≡ Owner.None = ap (λ (x : SpinlockState). x .owner) e in
-      let made : wordAfter c t (lockAt m l) (takenBy t) ≡ wordOf c (threadWord t) = rw none (same-value (makes tagBits c (threadWord t) taggable)) in
-      released _ refl made (acquire-then-release t .1 ∙ ap (answer OK) (sym e)) (rw none (sym (w .free l hl none .word)))
+      let made : wordAfter (m .setup) c t (lockAt m l) (takenBy t) ≡ ours = rw none (same-value ours-made) in
+      released _ made (acquire-then-release t .1 ∙ ap (answer OK) (sym e)) (rw none (sym (w .free l hl none .word)))
 
-  nested-up : HeldBy (lockAt m l .state) t → operate Operation.Release (deeper (lockAt m l .state)) t ≡ answer OK (lockAt m l .state)
-      → Undone m c l (record { state = deeper (lockAt m l .state); word = wordAfter c t (lockAt m l) (deeper (lockAt m l .state)) })
+  nested-up : HeldBy (lockAt m l .state) t → operate LockOperation.Release (deeper (lockAt m l .state)) t false ≡ answer OK (lockAt m l .state)
+      → Undone m c l (leaves (m .setup) c t (lockAt m l) (deeper (lockAt m l .state)))
   nested-up mine rule =
       let owner = mine .owner in
-      let same : wordAfter c t (lockAt m l) (deeper (lockAt m l .state)) ≡ lockAt m l .word = rw owner in
-      let made : lockAt m l .word ≡ wordOf c (threadWord t) =
-      w .held l hl t owner .word ∙ ap (λ x. wordOf x (threadWord t)) (named m w c l t hc hl runs owner) in
-      released _ owner (same ∙ made) rule (rw owner)
+      let same : wordAfter (m .setup) c t (lockAt m l) (deeper (lockAt m l .state)) ≡ lockAt m l .word = rw owner in
+      let made : lockAt m l .word ≡ ours =
+      w .held l hl t owner .word ∙ ap (λ x. wordOf x (threadWord (m .setup) t)) (named m w c l t hc hl runs owner) in
+      released _ (same ∙ made) rule (rw owner)
 
   -- A release undoes the level that a nested acquire went up.
   up-and-down : HeldBy (lockAt m l .state) t → lockAt m l .state .«nest_count» < maxNestDepth
-      → operate Operation.Release (deeper (lockAt m l .state)) t ≡ answer OK (lockAt m l .state)
+      → operate LockOperation.Release (deeper (lockAt m l .state)) t false ≡ answer OK (lockAt m l .state)
   unfolding codeOf after
   up-and-down mine below =
-      let rule = operated Operation.Nested (lockAt m l .state) t (lock-valid m w l hl) (below-is-own (lockAt m l .state) t (mine .owner) below) in
-      ap (λ (a : Answer SpinlockState). operate Operation.Release (a .value) t) (sym rule)
-      ∙ release-undoes Operation.Nested nested (lockAt m l .state) t (ap (λ (a : Answer SpinlockState). a .code) rule)
+      let rule = operated LockOperation.Nested (lockAt m l .state) t false (lock-valid m w l hl) (below-is-own (lockAt m l .state) t (mine .owner) below) in
+      ap (λ (a : Answer SpinlockState). operate LockOperation.Release (a .value) t false) (sym rule)
+      ∙ release-undoes LockOperation.Nested nested (lockAt m l .state) t false (ap (λ (a : Answer SpinlockState). a .code) rule)
 
-  ways : Ways c t (lockAt m l) (UndoneBy m c l)
+  ways : Ways (m .setup) c t (lockAt m l) (UndoneBy m c l)
   ways =
       record {
         acquired = λ _. tt;
@@ -114,10 +122,10 @@ module _ (m : Machine) (w : WellFormed m) (c l t : ℕ) (hc : c < m .n) (hl : l 
         released = λ _. tt;
       }
 
-nested-undone : (m : Machine) → WellFormed m → (c l : ℕ) → c < m .n → l < lockCount
-    → Told (Undone m c l) (lockOp Operation.Nested c (cpuAt m c .run) (lockAt m l))
+nested-undone : (m : Machine) → WellFormed m → (c l : ℕ) → c < m .setup .n → l < lockCount
+    → Told (Undone m c l) (lockOp (m .setup) LockOperation.Nested c (cpuAt m c .run) (lockAt m l))
 nested-undone m w c l hc hl =
-    walked c (cpuAt m c .run) (lockAt m l) (lock-valid m w l hl) (UndoneBy m c l) (λ t runs. ways m w c l t hc hl runs) Operation.Nested
+    walked (m .setup) c (cpuAt m c .run) (lockAt m l) (lock-valid m w l hl) (UndoneBy m c l) (λ t runs. ways m w c l t hc hl runs) LockOperation.Nested
 
 -- What is stored over a place, and then what stood there, leaves a list as it was.
 set-back : {A : Type 0} (xs : List A) (i : ℕ) (v d : A) → set (set xs i v) i (getD xs i d) ≡ xs
@@ -132,7 +140,7 @@ module _ (m : Machine) (s : Lengths m) (c l : ℕ) (hc : c < cpuSlots) (hl : l <
 
   changed-back : (h : ℕ) (v : Lock) → relocked (cpuAt m c .hold) (lockAt m l) (relocked h v m) ≡ m
   changed-back h v =
-      λ i. record { n = m .n; «pin_only» = m .«pin_only»; cpus = same-cpus i; threads = m .threads; locks = set-back (m .locks) l v freeLock i }
+      λ i. record { setup = m .setup; cpus = same-cpus i; threads = m .threads; locks = set-back (m .locks) l v freeLock i }
     where
       there : cpuAt (relocked h v m) c .run ≡ cpuAt m c .run
       there = ap (λ (x : Cpu). x .run) (cpu-there m s c (record { run = cpuAt m c .run; hold = h }) hc)
@@ -143,7 +151,7 @@ module _ (m : Machine) (s : Lengths m) (c l : ℕ) (hc : c < cpuSlots) (hl : l <
           ∙ set-back (m .cpus) c (record { run = cpuAt m c .run; hold = h }) noCpu
 
   abbrev freed : Machine → Outcome (Answer ℕ) (Lock × (ℕ × Unit {0}))
-  freed x = withHold Operation.Release (cpuAt x c .hold) (lockOp Operation.Release c (cpuAt x c .run) (lockAt x l))
+  freed x = withHold LockOperation.Release (cpuAt x c .hold) (lockOp (m .setup) LockOperation.Release c (cpuAt x c .run) (lockAt x l))
 
   -- The release's outcome on the machine after the acquire.
   release-outcome : (h : ℕ) (v : Lock) → h - 1 ≡ cpuAt m c .hold → Undone m c l v
@@ -151,8 +159,8 @@ module _ (m : Machine) (s : Lengths m) (c l : ℕ) (hc : c < cpuSlots) (hl : l <
   release-outcome h v less u =
       let cpu : cpuAt (relocked h v m) c ≡ record { run = cpuAt m c .run; hold = h } = cpu-there m s c _ hc in
       let k : lockAt (relocked h v m) l ≡ v = lock-there m s l v hl in
-      ap₂ (λ (x : Cpu) (y : Lock). withHold Operation.Release (x .hold) (lockOp Operation.Release c (x .run) y)) cpu k
-      ∙ ap (withHold Operation.Release h) (u .back)
+      ap₂ (λ (x : Cpu) (y : Lock). withHold LockOperation.Release (x .hold) (lockOp (m .setup) LockOperation.Release c (x .run) y)) cpu k
+      ∙ ap (withHold LockOperation.Release h) (u .back)
       ∙ ap (λ (x : ℕ). accept (answer OK (lockAt m l .state .«nest_count»)) (lockAt m l, (x, tt))) less
 
   -- An accepted nested acquire, then the release: accepted, and the machine as it was.
@@ -162,36 +170,37 @@ module _ (m : Machine) (s : Lengths m) (c l : ℕ) (hc : c < cpuSlots) (hl : l <
   restored : (h : ℕ) (v : Lock) → h - 1 ≡ cpuAt m c .hold → Undone m c l v → Restored (relocked h v m)
   restored h v less u =
       let out = release-outcome h v less u in (
-        ap (λ (o : Outcome (Answer ℕ) (Lock × (ℕ × Unit {0}))). commit machineStore (Answer ℕ) (lock l ∷ hold c ∷ []) o (relocked h v m)) out ∙ changed-back h v,
+        ap (λ (o : Outcome (Answer ℕ) (Lock × (ℕ × Unit {0}))). commit machineStore (Answer ℕ) (lock l ∷ hold c ∷ []) o (relocked h v m)) out
+            ∙ changed-back h v,
         ap (λ (o : Outcome (Answer ℕ) (Lock × (ℕ × Unit {0}))). isOK (answerOf o .code)) out,
       )
 
-module _ (m : Machine) (s : Lengths m) (w : WellFormed m) (c : CpuId) (l : LockId) (hc : c .0 < m .n) (hl : l .0 < lockCount) where
+module _ (m : Machine) (s : Lengths m) (w : WellFormed m) (c : CpuId) (l : LockId) (hc : c .0 < m .setup .n) (hl : l .0 < lockCount) where
   inside : c .0 < cpuSlots
   inside = let few = w .few in omega arith
 
-  one-less : moved Operation.Nested (cpuAt m (c .0) .hold) - 1 ≡ cpuAt m (c .0) .hold
+  one-less : moved LockOperation.Nested (cpuAt m (c .0) .hold) - 1 ≡ cpuAt m (c .0) .hold
   one-less = rw (lt-ltb (cpuAt m (c .0) .hold) 0xffff_ffff (hold-most m w (c .0) inside)) (omega arith)
 
-  gives : (v : Lock) → Undone m (c .0) (l .0) v → Gives m c l (relocked m s (c .0) (l .0) inside hl (moved Operation.Nested (cpuAt m (c .0) .hold)) v m)
+  gives : (v : Lock) → Undone m (c .0) (l .0) v → Gives m c l (relocked m s (c .0) (l .0) inside hl (moved LockOperation.Nested (cpuAt m (c .0) .hold)) v m)
   unfolding next answered
-  gives v u bytes asks =
-      rw asks (restored m s (c .0) (l .0) inside hl (moved Operation.Nested (cpuAt m (c .0) .hold)) v one-less u)
+  gives v u bytes z asks =
+      rw asks (restored m s (c .0) (l .0) inside hl (moved LockOperation.Nested (cpuAt m (c .0) .hold)) v one-less u)
 
   after-nested : (o : Outcome (Answer ℕ) Lock) → Told (Undone m (c .0) (l .0)) o
-      → isOK (answerOf (withHold Operation.Nested (cpuAt m (c .0) .hold) o) .code) ≡ true
-      → Gives m c l (commit machineStore (Answer ℕ) (lock (l .0) ∷ hold (c .0) ∷ []) (withHold Operation.Nested (cpuAt m (c .0) .hold) o) m)
+      → isOK (answerOf (withHold LockOperation.Nested (cpuAt m (c .0) .hold) o) .code) ≡ true
+      → Gives m c l (commit machineStore (Answer ℕ) (lock (l .0) ∷ hold (c .0) ∷ []) (withHold LockOperation.Nested (cpuAt m (c .0) .hold) o) m)
   after-nested (refuse a) e ok = absurd (false≢true (sym e ∙ ok))
   after-nested (accept a v) u ok = gives v (u .1)
 
--- An accepted nested acquire of lock l by CPU c, and then a release of it by that CPU: the machine before is the machine after.
-pub nothing-lost : (m : Machine) → Lengths m → wellFormed m ≡ true → (bytes : List ℕ) (c : CpuId) (l : LockId)
-    → Accepted m bytes (Request.Nested c l) → Gives m c l (next m bytes)
+-- An accepted nested acquire of lock l by CPU c, and then a release of it by that CPU: the machine before is the machine after. (A nested acquire
+-- uses no thread: its number z is any.)
+pub nothing-lost : (m : Machine) → Lengths m → wellFormed m ≡ true → (bytes : List ℕ) (c : CpuId) (l : LockId) {z : ℕ}
+    → Accepted m bytes (request (Operation.OnLock LockOperation.Nested) (c .0) z (l .0)) → Gives m c l (next m bytes)
 unfolding next answered lockOp
 nothing-lost m s good bytes c l a =
-    let e = ap (inRange (m .n)) (sym (a .asks)) ∙ request-in-range (m .n) bytes in
-    let hc = ltb-true (c .0) (m .n) (and-left (ltb (c .0) (m .n)) _ e) in
-    let hl = ltb-true (l .0) lockCount (and-right (ltb (c .0) (m .n)) _ e) in
+    let w = says m good in
+    let range = rw (a .asks) at (asks-in-range m w bytes) in
     rw (a .asks)
-    (after-nested m s (says m good) c l hc hl (lockOp Operation.Nested (c .0) (cpuAt m (c .0) .run) (lockAt m (l .0)))
-    (nested-undone m (says m good) (c .0) (l .0) hc hl) (rw (a .asks) at (a .ok)))
+    (after-nested m s w c l (range .cpu) (range .lock) (lockOp (m .setup) LockOperation.Nested (c .0) (cpuAt m (c .0) .run) (lockAt m (l .0)))
+    (nested-undone m w (c .0) (l .0) (range .cpu) (range .lock)) (rw (a .asks) at (a .ok)))

@@ -15,6 +15,7 @@ use Rattle.order.specs.Outcome.{Outcome, refuse, accept}
 use Rattle.machine.specs.State.{isCurrent, idleRun}
 use Rattle.machine.specs.declared.Current.{Current}
 use Rattle.machine.specs.declared.Place.{Place}
+use Rattle.machine.specs.declared.Setup.{Setup}
 use Rattle.machine.specs.declared.Run.{Run}
 use Rattle.machine.specs.declared.Thread.{Thread}
 use Rattle.machine.proofs.CurrentThread.{is-current}
@@ -123,13 +124,13 @@ mask-settled enable disable true k false e =
     bool-ind (λ b. Accepting (Masks true k) (remasked k (cond (not b) (answer EINVAL (k .mask)) (answer OK new)))) (validatePinMask new)
     (λ good. record { nowhere = not-placed (k .place) e; one = λ _. eqb-true (ones new) 1 good; priority = refl; place = refl }) (λ _. tt)
 
-pub mask-accepted : (enable disable : ℕ) (pinOnly : Bool) (k : Thread) → Accepting (Masks pinOnly k) (mask enable disable pinOnly k)
+pub mask-accepted : (s : Setup) (enable disable : ℕ) (k : Thread) → Accepting (Masks (s .«pin_only») k) (mask s enable disable k)
 unfolding mask
-mask-accepted enable disable pinOnly k = mask-settled enable disable pinOnly k (placed (k .place)) refl
+mask-accepted s enable disable k = mask-settled enable disable (s .«pin_only») k (placed (k .place)) refl
 
-pub pin-accepted : (c : ℕ) (pinOnly : Bool) (k : Thread) → Accepting (Masks pinOnly k) (pin c pinOnly k)
+pub pin-accepted : (s : Setup) (c : ℕ) (k : Thread) → Accepting (Masks (s .«pin_only») k) (pin s c k)
 unfolding pin
-pin-accepted c pinOnly k = mask-accepted (cpuBit c) (bitNot maskBits (cpuBit c)) pinOnly k
+pin-accepted s c k = mask-accepted s (cpuBit c) (bitNot maskBits (cpuBit c)) k
 
 pub record Priorities (a : ℤ) (k v : Thread) : Type 0 where
   pub nowhere : k .place ≡ Place.Nowhere

@@ -1,17 +1,17 @@
 -- The lists of a machine have the lengths of its arrays, and every operation keeps them: storing into a cell changes no length.
 -- Assumes nothing.
 use mathlib.Core.Path.{_≡_, refl, _∙_}
-use mathlib.Core.Bool.{Bool}
 use mathlib.Core.List.{List, [], _∷_}
 use Prim.Native.Nat.{ℕ}
 use lib.ListN.{length, length-set}
 use Rattle.error.specs.Answer.{Answer}
 use Rattle.order.specs.Outcome.{Outcome, refuse, accept}
 use Rattle.order.specs.Cells.{Op, Vals, store, commit, result, after}
-use Rattle.machine.specs.State.{cpuSlots, threadCount, lockCount, freshMachine}
+use Rattle.machine.specs.State.{cpuSlots, threadCount, lockCount, freshThreads, freshMachine}
+use Rattle.machine.specs.declared.Setup.{Setup}
 use Rattle.machine.specs.declared.Machine.{Machine}
-use Rattle.runner.specs.Cells.{Cell, run, hold, thread, lock, Val, put, machineStore}
-use Rattle.runner.specs.Step.{asked, next}
+use Rattle.operations.specs.Cells.{Cell, run, hold, thread, lock, Val, put, machineStore}
+use Rattle.operations.specs.Asked.{asked, next}
 
 -- 4 CPUs, 32 threads and 128 locks.
 pub record Lengths (m : Machine) : Type 0 where
@@ -20,9 +20,9 @@ pub record Lengths (m : Machine) : Type 0 where
   pub locks : length (m .locks) ≡ lockCount
 
 -- A fresh machine has them.
-pub fresh-lengths : (n : ℕ) (pinOnly : Bool) → Lengths (freshMachine n pinOnly)
+pub fresh-lengths : (k : Setup) → Lengths (freshMachine k (freshThreads k))
 unfolding freshMachine
-fresh-lengths n pinOnly = record { cpus = refl; threads = refl; locks = refl }
+fresh-lengths k = record { cpus = refl; threads = refl; locks = refl }
 
 put-lengths : (c : Cell) (v : Val c) (m : Machine) → Lengths m → Lengths (put c v m)
 put-lengths (run c) v m s = record { cpus = length-set (m .cpus) c _ ∙ s .cpus; threads = s .threads; locks = s .locks }

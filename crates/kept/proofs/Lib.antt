@@ -6,9 +6,11 @@ pub mod Running
 pub mod Threads
 pub mod Seats
 pub mod Sums
+pub mod Tagged
 pub mod Depths
 pub mod Seated
 pub mod Locks
 pub mod Walk
 pub mod Locked
+pub mod Ranges
 pub mod Laws

@@ -2,15 +2,14 @@
 -- of the CPU's current thread is a lock of that CPU, for the thread runs nowhere else. Assumes nothing.
 use mathlib.Core.Path.{_≡_, refl, sym, ap, _∙_}
 use mathlib.Core.Bool.{true, cond}
-use Prim.Native.Nat.{ℕ, _+_, _-_, _≤_, _<_}
+use Prim.Native.Nat.{ℕ, _+_, _-_, _^_, _≤_, _<_}
 use native.Mathlib.Omega.{arith}
 use lib.Dec.{eqb}
 use borrow.Author.Tests.{lt-ltb, eqb-true, eqb-false}
 use Rattle.error.proofs.Answers.{same-value}
 use Rattle.words.specs.Tag.{wordOf, cpuOf}
 use Rattle.words.proofs.Choice.{bool-ind}
-use Rattle.words.proofs.Tags.{Taggable, cpu-back}
-use Rattle.spinlock_validate.specs.Owner.{tagBits}
+use Rattle.words.proofs.Tags.{word-taggable, word-cpu, word-nonzero}
 use Rattle.spinlock_validate.proofs.Laws.{makes}
 use Rattle.spinlock.specs.Lock.{maxNestDepth, freeRecord, takenBy, deeper, shallower, validRecord}
 use Rattle.spinlock.specs.declared.Owner.{Owner}
@@ -18,22 +17,20 @@ use Rattle.spinlock.specs.declared.SpinlockState.{SpinlockState}
 use Rattle.spinlock.specs.declared.Operation.{Operation}
 use Rattle.spinlock.proofs.Situations.{HeldBy, free}
 use Rattle.spinlock.proofs.Laws.{held-valid}
-use Rattle.machine.specs.State.{cpuSlots, lockCount, threadWord, cpuAt, lockAt}
+use Rattle.machine.specs.State.{cpuSlots, lockCount, tagBits, threadWord, cpuAt, lockAt}
 use Rattle.machine.specs.declared.Lock.{Lock}
 use Rattle.machine.specs.declared.Machine.{Machine}
 use Rattle.rules.specs.Rules.{wordAfter, lockOp, oneMore, moved}
-use Rattle.wellformed.specs.WellFormed.{depthFor, sumBelow}
+use Rattle.element_tests.specs.Elements.{depthFor}
+use Rattle.wellformed.specs.WellFormed.{holdSum}
 use Rattle.wellformed.proofs.Facts.{Runs, WellFormed}
 use Rattle.kept.proofs.Apart.{none-or-owner, same-cpu, same-owner}
 use Rattle.kept.proofs.Accepted.{Accepting}
 use Rattle.kept.proofs.Sums.{sum-term}
+use Rattle.kept.proofs.Tagged.{cpu-fits}
 use Rattle.kept.proofs.Depths.{depth-named, depth-zero, depth-other, held-word, hold-most}
 use Rattle.kept.proofs.Locks.{Relocks}
-use Rattle.kept.proofs.Walk.{Ways, walked, told-accepting}
-
--- A CPU below 4 and a thread's word make an owner word.
-word-taggable : (c t : ℕ) → c < cpuSlots → Taggable tagBits c (threadWord t)
-word-taggable c t h = record { below = h; some = omega arith; aligned = omega arith }
+use Rattle.kept.proofs.Walk.{leaves, Ways, walked, told-accepting}
 
 -- The lock records of a well-formed machine are valid.
 pub lock-valid : (m : Machine) → WellFormed m → (l : ℕ) → l < lockCount → validRecord (lockAt m l .state) ≡ true
@@ -44,22 +41,27 @@ lock-valid m w l h = go (lockAt m l .state .owner) refl
     go Owner.None e = let f = w .free l h e in rw (e, f .depth, f .flag)
     go (Owner.Thread t) e = let f = w .held l h t e in held-valid (lockAt m l .state) t e (f .some) (f .most)
 
-module _ (m : Machine) (w : WellFormed m) (c l t : ℕ) (hc : c < m .n) (hl : l < lockCount) (runs : Runs m c t) where
+module _ (m : Machine) (w : WellFormed m) (c l t : ℕ) (hc : c < m .setup .n) (hl : l < lockCount) (runs : Runs m c t) where
   hc′ : c < cpuSlots
   hc′ = omega (arith, w .few)
+
+  -- The tag of an owner word can hold the CPU.
+  fits : c < 2 ^ tagBits (m .setup)
+  fits = cpu-fits m w c hc
 
   more : oneMore (cpuAt m c .hold) ≡ cpuAt m c .hold + 1
   more = rw (lt-ltb (cpuAt m c .hold) 0xffff_ffff (hold-most m w c hc′))
 
   -- A free lock is taken.
-  taken : (v : Lock) → lockAt m l .state .owner ≡ Owner.None → v .state ≡ takenBy t → v .word ≡ wordOf c (threadWord t)
+  taken : (v : Lock) → lockAt m l .state .owner ≡ Owner.None → v .state ≡ takenBy t → v .word ≡ wordOf c (threadWord (m .setup) t)
       → Relocks m c l (oneMore (cpuAt m c .hold)) v
   taken v none state word =
       let was = w .free l hl none in
       let owner : v .state .owner ≡ Owner.Thread t = ap (λ (x : SpinlockState). x .owner) state in
       let depth : v .state .«nest_count» ≡ 1 = ap (λ (x : SpinlockState). x .«nest_count») state in
-      let cpu : cpuOf tagBits (v .word) ≡ c = ap (cpuOf tagBits) word ∙ cpu-back tagBits c (threadWord t) (word-taggable c t hc′) in
-      let some : v .word ≡ 0 → ⊥ = λ e. omega arith in
+      let k = tagBits (m .setup) in
+      let cpu : cpuOf k (v .word) ≡ c = ap (cpuOf k) word ∙ word-cpu k c t fits in
+      let some : v .word ≡ 0 → ⊥ = λ e. word-nonzero k c t (sym word ∙ e) in
       record {
         free = λ e. absurd (none-or-owner (sym e ∙ owner));
         held = λ u e.
@@ -72,13 +74,13 @@ module _ (m : Machine) (w : WellFormed m) (c l t : ℕ) (hc : c < m .n) (hl : l 
               below = rw cpu hc;
               current = rw (cpu, sym same) runs;
             };
-        moves = rw (more, depth-zero (lockAt m l) c (was .word), depth-named v c some cpu, depth) (omega arith);
-        others = λ d other. depth-other v d (λ e. other (sym e ∙ cpu)) ∙ sym (depth-zero (lockAt m l) d (was .word));
+        moves = rw (more, depth-zero (m .setup) (lockAt m l) c (was .word), depth-named (m .setup) v c some cpu, depth) (omega arith);
+        others = λ d other. depth-other (m .setup) v d (λ e. other (sym e ∙ cpu)) ∙ sym (depth-zero (m .setup) (lockAt m l) d (was .word));
       }
 
   -- An own lock: its word names the CPU.
   module _ (owned : lockAt m l .state .owner ≡ Owner.Thread t) where
-    pub named : cpuOf tagBits (lockAt m l .word) ≡ c
+    pub named : cpuOf (tagBits (m .setup)) (lockAt m l .word) ≡ c
     named =
         let was = w .held l hl t owned in
         let below = was .below in
@@ -86,12 +88,12 @@ module _ (m : Machine) (w : WellFormed m) (c l t : ℕ) (hc : c < m .n) (hl : l 
         let here = w .current c hc′ (record { 0 = t }) runs .place in
         same-cpu (sym here ∙ there)
 
-    depth-is : depthFor (lockAt m l) c ≡ lockAt m l .state .«nest_count»
-    depth-is = depth-named (lockAt m l) c (held-word m (lockAt m l) t (w .held l hl t owned)) named
+    depth-is : depthFor (m .setup) (lockAt m l) c ≡ lockAt m l .state .«nest_count»
+    depth-is = depth-named (m .setup) (lockAt m l) c (held-word m (lockAt m l) t (w .held l hl t owned)) named
 
     pub hold-least : lockAt m l .state .«nest_count» ≤ cpuAt m c .hold
     hold-least =
-        let term : depthFor (lockAt m l) c ≤ sumBelow (λ i. depthFor (lockAt m i) c) lockCount = sum-term (λ i. depthFor (lockAt m i) c) lockCount l hl in
+        let term : depthFor (m .setup) (lockAt m l) c ≤ holdSum m c = sum-term (λ i. depthFor (m .setup) (lockAt m i) c) lockCount l hl in
         omega (arith, depth-is, w .hold c hc′)
 
     -- It goes to another level, with its owner, flag and word.
@@ -100,7 +102,7 @@ module _ (m : Machine) (w : WellFormed m) (c l t : ℕ) (hc : c < m .n) (hl : l 
         → h + lockAt m l .state .«nest_count» ≡ cpuAt m c .hold + v .state .«nest_count» → Relocks m c l h v
     leveled h v owner flag word some most moves =
         let was = w .held l hl t owned in
-        let cpu : cpuOf tagBits (v .word) ≡ c = ap (cpuOf tagBits) word ∙ named in
+        let cpu : cpuOf (tagBits (m .setup)) (v .word) ≡ c = ap (cpuOf (tagBits (m .setup))) word ∙ named in
         let nonzero : v .word ≡ 0 → ⊥ = λ e. held-word m (lockAt m l) t was (sym word ∙ e) in
         record {
           free = λ e. absurd (none-or-owner (sym e ∙ owner));
@@ -114,9 +116,9 @@ module _ (m : Machine) (w : WellFormed m) (c l t : ℕ) (hc : c < m .n) (hl : l 
                 below = rw cpu hc;
                 current = rw (cpu, sym same) runs;
               };
-          moves = rw (depth-is, depth-named v c nonzero cpu) moves;
+          moves = rw (depth-is, depth-named (m .setup) v c nonzero cpu) moves;
           others = λ d other.
-              depth-other v d (λ e. other (sym e ∙ cpu)) ∙ sym (depth-other (lockAt m l) d (λ e. other (sym e ∙ named)));
+              depth-other (m .setup) v d (λ e. other (sym e ∙ cpu)) ∙ sym (depth-other (m .setup) (lockAt m l) d (λ e. other (sym e ∙ named)));
         }
 
     -- It is freed, from level 1.
@@ -131,41 +133,39 @@ module _ (m : Machine) (w : WellFormed m) (c l t : ℕ) (hc : c < m .n) (hl : l 
                 word = word;
               };
           held = λ u e. absurd (none-or-owner (ap (λ (x : SpinlockState). x .owner) (sym state) ∙ e));
-          moves = rw (depth-is, depth-zero v c word) (omega arith);
-          others = λ d other. depth-zero v d word ∙ sym (depth-other (lockAt m l) d (λ e. other (sym e ∙ named)));
+          moves = rw (depth-is, depth-zero (m .setup) v c word) (omega arith);
+          others = λ d other. depth-zero (m .setup) v d word ∙ sym (depth-other (m .setup) (lockAt m l) d (λ e. other (sym e ∙ named)));
         }
 
   word-held : (v : SpinlockState) (u x : ℕ) → v .owner ≡ Owner.Thread u → lockAt m l .state .owner ≡ Owner.Thread x
-      → wordAfter c t (lockAt m l) v ≡ lockAt m l .word
+      → wordAfter (m .setup) c t (lockAt m l) v ≡ lockAt m l .word
   word-held v u x now before = rw (now, before)
 
   word-made : (v : SpinlockState) → v .owner ≡ Owner.Thread t → lockAt m l .state .owner ≡ Owner.None
-      → wordAfter c t (lockAt m l) v ≡ wordOf c (threadWord t)
-  word-made v now before = rw (now, before) (same-value (makes tagBits c (threadWord t) (word-taggable c t hc′)))
+      → wordAfter (m .setup) c t (lockAt m l) v ≡ wordOf c (threadWord (m .setup) t)
+  word-made v now before = let k = tagBits (m .setup) in rw (now, before) (same-value (makes k c (threadWord (m .setup) t) (word-taggable k c t fits)))
 
   taken-here : lockAt m l .state ≡ freeRecord
-      → Relocks m c l (oneMore (cpuAt m c .hold)) (record { state = takenBy t; word = wordAfter c t (lockAt m l) (takenBy t) })
+      → Relocks m c l (oneMore (cpuAt m c .hold)) (leaves (m .setup) c t (lockAt m l) (takenBy t))
   taken-here e =
       let none : lockAt m l .state .owner ≡ Owner.None = ap (λ (x : SpinlockState). x .owner) e in
       taken _ none refl (word-made (takenBy t) refl none)
 
   released : HeldBy (lockAt m l .state) t
-      → Relocks m c l (cpuAt m c .hold - 1)
-      (record { state = shallower (lockAt m l .state); word = wordAfter c t (lockAt m l) (shallower (lockAt m l .state)) })
+      → Relocks m c l (cpuAt m c .hold - 1) (leaves (m .setup) c t (lockAt m l) (shallower (lockAt m l .state)))
   released mine =
       let state = lockAt m l .state in
       let depth = state .«nest_count» in
       let lower : SpinlockState = record { owner = state .owner; «nest_count» = depth - 1; «irq_saved» = state .«irq_saved» } in
-      bool-ind
-      (λ b. Relocks m c l (cpuAt m c .hold - 1) (record { state = cond b freeRecord lower; word = wordAfter c t (lockAt m l) (cond b freeRecord lower) }))
-      (eqb depth 1) (λ one. freed (mine .owner) _ refl refl (eqb-true depth 1 one)) (λ more.
+      bool-ind (λ b. Relocks m c l (cpuAt m c .hold - 1) (leaves (m .setup) c t (lockAt m l) (cond b freeRecord lower))) (eqb depth 1)
+      (λ one. freed (mine .owner) _ refl refl (eqb-true depth 1 one)) (λ more.
       let some = mine .some in
       let most = mine .most in
       let two : depth ≡ 1 → ⊥ = eqb-false depth 1 more in
       let least = hold-least (mine .owner) in
       leveled (mine .owner) _ _ (mine .owner) refl (word-held lower t t (mine .owner) (mine .owner)) (omega arith) (omega arith) (omega arith))
 
-  ways : Ways c t (lockAt m l) (λ op. Relocks m c l (moved op (cpuAt m c .hold)))
+  ways : Ways (m .setup) c t (lockAt m l) (λ op. Relocks m c l (moved op (cpuAt m c .hold)))
   ways =
       record {
         acquired = taken-here;
@@ -178,9 +178,9 @@ module _ (m : Machine) (w : WellFormed m) (c l t : ℕ) (hc : c < m .n) (hl : l 
       }
 
 -- What the lock's rule hands back makes a good change, with the hold that moves.
-pub lock-accepted : (m : Machine) → WellFormed m → (c l : ℕ) → c < m .n → l < lockCount → (op : Operation)
-    → Accepting (Relocks m c l (moved op (cpuAt m c .hold))) (lockOp op c (cpuAt m c .run) (lockAt m l))
+pub lock-accepted : (m : Machine) → WellFormed m → (c l : ℕ) → c < m .setup .n → l < lockCount → (op : Operation)
+    → Accepting (Relocks m c l (moved op (cpuAt m c .hold))) (lockOp (m .setup) op c (cpuAt m c .run) (lockAt m l))
 lock-accepted m w c l hc hl op =
-    told-accepting (Relocks m c l (moved op (cpuAt m c .hold))) (lockOp op c (cpuAt m c .run) (lockAt m l))
-    (walked c (cpuAt m c .run) (lockAt m l) (lock-valid m w l hl) (λ op. Relocks m c l (moved op (cpuAt m c .hold)))
+    told-accepting (Relocks m c l (moved op (cpuAt m c .hold))) (lockOp (m .setup) op c (cpuAt m c .run) (lockAt m l))
+    (walked (m .setup) c (cpuAt m c .run) (lockAt m l) (lock-valid m w l hl) (λ op. Relocks m c l (moved op (cpuAt m c .hold)))
     (λ t runs. ways m w c l t hc hl runs) op)

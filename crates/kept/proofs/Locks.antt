@@ -11,9 +11,10 @@ use Rattle.machine.specs.declared.Run.{Run}
 use Rattle.machine.specs.declared.Cpu.{Cpu}
 use Rattle.machine.specs.declared.Lock.{Lock}
 use Rattle.machine.specs.declared.Machine.{Machine}
-use Rattle.wellformed.specs.WellFormed.{sumBelow, depthFor}
+use Rattle.element_tests.specs.Elements.{depthFor}
+use Rattle.wellformed.specs.WellFormed.{holdSum}
 use Rattle.wellformed.proofs.Facts.{FreeLock, HeldLock, WellFormed}
-use Rattle.runner.specs.Cells.{setCpu, setLock}
+use Rattle.operations.specs.Cells.{setCpu, setLock}
 use Rattle.kept.proofs.Lengths.{Lengths}
 use Rattle.kept.proofs.Stored.{cpu-there, cpu-elsewhere, lock-there, lock-elsewhere}
 use Rattle.kept.proofs.Sums.{sum-change}
@@ -26,10 +27,10 @@ relocked m c l h k = setLock (setCpu m c (record { run = cpuAt m c .run; hold = 
 pub record Relocks (m : Machine) (c l h : ℕ) (k : Lock) : Type 0 where
   pub free : k .state .owner ≡ Owner.None → FreeLock k
   pub held : (t : ℕ) → k .state .owner ≡ Owner.Thread t → HeldLock m k t
-  pub moves : h + depthFor (lockAt m l) c ≡ cpuAt m c .hold + depthFor k c
-  pub others : (d : ℕ) → (d ≡ c → ⊥) → depthFor k d ≡ depthFor (lockAt m l) d
+  pub moves : h + depthFor (m .setup) (lockAt m l) c ≡ cpuAt m c .hold + depthFor (m .setup) k c
+  pub others : (d : ℕ) → (d ≡ c → ⊥) → depthFor (m .setup) k d ≡ depthFor (m .setup) (lockAt m l) d
 
-module _ (m : Machine) (s : Lengths m) (w : WellFormed m) (c l : ℕ) (hc : c < m .n) (hl : l < lockCount) (h : ℕ) (k : Lock)
+module _ (m : Machine) (s : Lengths m) (w : WellFormed m) (c l : ℕ) (hc : c < m .setup .n) (hl : l < lockCount) (h : ℕ) (k : Lock)
     (g : Relocks m c l h k) where
   there : cpuAt (relocked m c l h k) c ≡ record { run = cpuAt m c .run; hold = h }
   there = cpu-there m s c (record { run = cpuAt m c .run; hold = h }) (omega (arith, w .few))
@@ -88,18 +89,16 @@ module _ (m : Machine) (s : Lengths m) (w : WellFormed m) (c l : ℕ) (hc : c < 
           held-still _ t (rw is (w .held j b t (ap (λ (x : Lock). x .state .owner) (sym is) ∙ owned)))
 
   sum-after : (d : ℕ)
-      → sumBelow (λ j. depthFor (lockAt (relocked m c l h k) j) d) lockCount + depthFor (lockAt m l) d
-      ≡ sumBelow (λ j. depthFor (lockAt m j) d) lockCount + depthFor k d
+      → holdSum (relocked m c l h k) d + depthFor (m .setup) (lockAt m l) d ≡ holdSum m d + depthFor (m .setup) k d
   sum-after d =
-      sum-change (λ j. depthFor (lockAt m j) d) (λ j. depthFor (lockAt (relocked m c l h k) j) d) lockCount l hl
-      (λ j b other. ap (λ (x : Lock). depthFor x d) (lock-away j other))
-      ∙ ap (λ (x : Lock). sumBelow (λ j. depthFor (lockAt m j) d) lockCount + depthFor x d) lock-is
+      sum-change (λ j. depthFor (m .setup) (lockAt m j) d) (λ j. depthFor (m .setup) (lockAt (relocked m c l h k) j) d) lockCount l hl
+      (λ j b other. ap (λ (x : Lock). depthFor (m .setup) x d) (lock-away j other))
+      ∙ ap (λ (x : Lock). holdSum m d + depthFor (m .setup) x d) lock-is
 
-  hold-after : (d : ℕ) → d < cpuSlots
-      → cpuAt (relocked m c l h k) d .hold ≡ sumBelow (λ j. depthFor (lockAt (relocked m c l h k) j) d) lockCount
+  hold-after : (d : ℕ) → d < cpuSlots → cpuAt (relocked m c l h k) d .hold ≡ holdSum (relocked m c l h k) d
   hold-after d b = go (same-or d c)
     where
-      go : (d ≡ c) ⊎ (d ≡ c → ⊥) → cpuAt (relocked m c l h k) d .hold ≡ sumBelow (λ j. depthFor (lockAt (relocked m c l h k) j) d) lockCount
+      go : (d ≡ c) ⊎ (d ≡ c → ⊥) → cpuAt (relocked m c l h k) d .hold ≡ holdSum (relocked m c l h k) d
       go (inl e) =
           let before = w .hold c (omega (arith, w .few)) in
           let total = sum-after c in

@@ -13,7 +13,7 @@ use Rattle.machine.specs.declared.Current.{Current}
 use Rattle.machine.specs.declared.Cpu.{Cpu}
 use Rattle.machine.specs.declared.Machine.{Machine}
 use Rattle.wellformed.proofs.Facts.{Runs, Carried, WellFormed}
-use Rattle.runner.specs.Cells.{setCpu}
+use Rattle.operations.specs.Cells.{setCpu}
 use Rattle.kept.proofs.Apart.{none-or-thread}
 use Rattle.kept.proofs.Lengths.{Lengths}
 use Rattle.kept.proofs.Stored.{cpu-there, cpu-elsewhere}
@@ -31,7 +31,7 @@ down-is-idle m w c h down = go (cpuAt m c .run .current) refl
 abbrev pub idled : Machine → ℕ → Bool → Machine
 idled m c active = setCpu m c (record { run = idleRun active; hold = cpuAt m c .hold })
 
-module _ (m : Machine) (s : Lengths m) (w : WellFormed m) (c : ℕ) (h : c < m .n) (idle : cpuAt m c .run .current ≡ Current.None)
+module _ (m : Machine) (s : Lengths m) (w : WellFormed m) (c : ℕ) (h : c < m .setup .n) (idle : cpuAt m c .run .current ≡ Current.None)
     (active : Bool) where
   there : cpuAt (idled m c active) c ≡ record { run = idleRun active; hold = cpuAt m c .hold }
   there = cpu-there m s c (record { run = idleRun active; hold = cpuAt m c .hold }) (omega (arith, w .few))

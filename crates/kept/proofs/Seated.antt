@@ -14,7 +14,7 @@ use Rattle.kept.proofs.Accepted.{Puts, Takes}
 use Rattle.kept.proofs.Depths.{unheld}
 use Rattle.kept.proofs.Seats.{reseated, Reseats, reseated-kept}
 
-module _ (m : Machine) (s : Lengths m) (w : WellFormed m) (c t : ℕ) (hc : c < m .n) (ht : t < threadCount) where
+module _ (m : Machine) (s : Lengths m) (w : WellFormed m) (c t : ℕ) (hc : c < m .setup .n) (ht : t < threadCount) where
   seats : (v : Run × Thread) → Puts c t (cpuAt m c .run) (threadAt m t) v
       → Reseats m c t (seated c t (cpuAt m c .run) (threadAt m t) .0) (seated c t (cpuAt m c .run) (threadAt m t) .1)
   seats v p =

@@ -9,9 +9,8 @@ use lib.IntN.{pos}
 use Rattle.words.specs.Bit.{bit}
 use Rattle.words.specs.Tag.{cpuOf}
 use Rattle.words.proofs.Choice.{same-or}
-use Rattle.spinlock_validate.specs.Owner.{tagBits}
 use Rattle.spinlock.specs.declared.Owner.{Owner}
-use Rattle.machine.specs.State.{cpuSlots, threadCount, lockCount, cpuAt, threadAt, lockAt}
+use Rattle.machine.specs.State.{cpuSlots, threadCount, lockCount, tagBits, cpuAt, threadAt, lockAt}
 use Rattle.machine.specs.declared.CpuId.{CpuId}
 use Rattle.machine.specs.declared.ThreadId.{ThreadId}
 use Rattle.machine.specs.declared.Current.{Current}
@@ -21,7 +20,7 @@ use Rattle.machine.specs.declared.Cpu.{Cpu}
 use Rattle.machine.specs.declared.Thread.{Thread}
 use Rattle.machine.specs.declared.Machine.{Machine}
 use Rattle.wellformed.proofs.Facts.{Runs, Carried, Placed, WellFormed}
-use Rattle.runner.specs.Cells.{setCpu, setThread}
+use Rattle.operations.specs.Cells.{setCpu, setThread}
 use Rattle.kept.proofs.Lengths.{Lengths}
 use Rattle.kept.proofs.Stored.{cpu-there, cpu-elsewhere, thread-there, thread-elsewhere}
 use Rattle.kept.proofs.Threads.{Fit, fit-after}
@@ -39,15 +38,16 @@ pub record Sits (c : ℕ) (r : Run) (k : Thread) : Type 0 where
 
 -- What makes such a change a good one.
 pub record Reseats (m : Machine) (c t : ℕ) (r : Run) (k : Thread) : Type 0 where
-  pub fits : Fit (m .«pin_only») k
+  pub fits : Fit (m .setup .«pin_only») k
   pub carries : (u : ThreadId) → r .current ≡ Current.Thread u → (u .0 ≡ t) × Sits c r k
   pub placed : (d : CpuId) → k .place ≡ Place.On d → (d .0 ≡ c) × (r .current ≡ Current.Thread (record { 0 = t }))
   pub idle : r .current ≡ Current.None → r .priority ≡ pos 128
   pub nowhere-else : (d : ℕ) → d < cpuSlots → (d ≡ c → ⊥) → (u : ThreadId) → cpuAt m d .run .current ≡ Current.Thread u → u .0 ≡ t → ⊥
   pub nobody-else : (u : ℕ) → (u ≡ t → ⊥) → Runs m c u → ⊥
-  pub unlocked : (l : ℕ) → l < lockCount → (u : ℕ) → lockAt m l .state .owner ≡ Owner.Thread u → cpuOf tagBits (lockAt m l .word) ≡ c → ⊥
+  pub unlocked : (l : ℕ) → l < lockCount → (u : ℕ) → lockAt m l .state .owner ≡ Owner.Thread u
+      → cpuOf (tagBits (m .setup)) (lockAt m l .word) ≡ c → ⊥
 
-module _ (m : Machine) (s : Lengths m) (w : WellFormed m) (c t : ℕ) (hc : c < m .n) (ht : t < threadCount) (r : Run) (k : Thread)
+module _ (m : Machine) (s : Lengths m) (w : WellFormed m) (c t : ℕ) (hc : c < m .setup .n) (ht : t < threadCount) (r : Run) (k : Thread)
     (g : Reseats m c t r k) where
   there : cpuAt (reseated m c t r k) c ≡ record { run = r; hold = cpuAt m c .hold }
   there = cpu-there m s c (record { run = r; hold = cpuAt m c .hold }) (omega (arith, w .few))

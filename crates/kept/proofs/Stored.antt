@@ -9,7 +9,7 @@ use Rattle.machine.specs.declared.Cpu.{Cpu}
 use Rattle.machine.specs.declared.Thread.{Thread}
 use Rattle.machine.specs.declared.Lock.{Lock}
 use Rattle.machine.specs.declared.Machine.{Machine}
-use Rattle.runner.specs.Cells.{setCpu, setThread, setLock}
+use Rattle.operations.specs.Cells.{setCpu, setThread, setLock}
 use Rattle.kept.proofs.Lengths.{Lengths}
 
 module _ (m : Machine) (s : Lengths m) where

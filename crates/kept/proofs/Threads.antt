@@ -16,7 +16,7 @@ use Rattle.machine.specs.declared.Place.{Place}
 use Rattle.machine.specs.declared.Thread.{Thread}
 use Rattle.machine.specs.declared.Machine.{Machine}
 use Rattle.wellformed.proofs.Facts.{Carried, Placed, WellFormed}
-use Rattle.runner.specs.Cells.{setThread}
+use Rattle.operations.specs.Cells.{setThread}
 use Rattle.kept.proofs.Apart.{nowhere-or-on}
 use Rattle.kept.proofs.Lengths.{Lengths}
 use Rattle.kept.proofs.Stored.{thread-there, thread-elsewhere}
@@ -28,19 +28,19 @@ pub record Fit (pinOnly : Bool) (k : Thread) : Type 0 where
   pub mask : pinOnly ≡ true → ones (k .mask) ≡ 1
 
 -- Each thread of a well-formed machine has it, and each thread after another was stored that has it.
-pub fit : (m : Machine) → WellFormed m → (t : ℕ) → t < threadCount → Fit (m .«pin_only») (threadAt m t)
+pub fit : (m : Machine) → WellFormed m → (t : ℕ) → t < threadCount → Fit (m .setup .«pin_only») (threadAt m t)
 fit m w t h = record { least = w .least t h; greatest = w .greatest t h; mask = w .mask t h }
 
-pub fit-after : (m : Machine) → Lengths m → WellFormed m → (t : ℕ) → t < threadCount → (v : Thread) → Fit (m .«pin_only») v → (u : ℕ)
-    → u < threadCount → Fit (m .«pin_only») (threadAt (setThread m t v) u)
+pub fit-after : (m : Machine) → Lengths m → WellFormed m → (t : ℕ) → t < threadCount → (v : Thread) → Fit (m .setup .«pin_only») v → (u : ℕ)
+    → u < threadCount → Fit (m .setup .«pin_only») (threadAt (setThread m t v) u)
 fit-after m s w t h v good u k = go (same-or u t)
   where
-    go : (u ≡ t) ⊎ (u ≡ t → ⊥) → Fit (m .«pin_only») (threadAt (setThread m t v) u)
+    go : (u ≡ t) ⊎ (u ≡ t → ⊥) → Fit (m .setup .«pin_only») (threadAt (setThread m t v) u)
     go (inl e) = rw (e, thread-there m s t v h) good
     go (inr other) = rw (thread-elsewhere m t v u other) (fit m w u k)
 
 module _ (m : Machine) (s : Lengths m) (w : WellFormed m) (t : ℕ) (h : t < threadCount) (v : Thread)
-    (nowhere : threadAt m t .place ≡ Place.Nowhere) (stays : v .place ≡ Place.Nowhere) (good : Fit (m .«pin_only») v) where
+    (nowhere : threadAt m t .place ≡ Place.Nowhere) (stays : v .place ≡ Place.Nowhere) (good : Fit (m .setup .«pin_only») v) where
   current-after : (d : ℕ) → d < cpuSlots → (u : ThreadId) → cpuAt m d .run .current ≡ Current.Thread u → Carried (setThread m t v) d (u .0)
   current-after d k u runs =
       let old = w .current d k u runs in

@@ -1,94 +1,92 @@
 -- What the lock's rule accepts, walked once for whatever is to be shown of the lock that it hands back. By the lock's situation to the CPU's
--- current thread a free lock is taken, an own one goes a level up or down, and every other call is refused. Assumes nothing.
+-- current thread a free lock is taken, an own one goes a level up or down, and every other call is refused: an own lock that was taken on
+-- another CPU is foreign. Assumes nothing.
 use mathlib.Core.Path.{_≡_, refl}
 use mathlib.Core.Bool.{Bool, true, false, cond}
 use Prim.Native.Nat.{ℕ, _<_}
-use Rattle.error.specs.Codes.{isOK}
+use Rattle.error.specs.Codes.{EINVAL, isOK}
 use Rattle.error.specs.Answer.{Answer, answer}
 use Rattle.words.proofs.Choice.{bool-ind}
 use Rattle.spinlock.specs.Table.{codeOf}
-use Rattle.spinlock.specs.Lock.{maxNestDepth, freeRecord, takenBy, deeper, shallower, validRecord, after, operate}
+use Rattle.spinlock.specs.Lock.{maxNestDepth, freeRecord, takenBy, deeper, shallower, validRecord, after}
 use Rattle.spinlock.specs.declared.SpinlockState.{SpinlockState}
 use Rattle.spinlock.specs.declared.Operation.{Operation}
 use Rattle.spinlock.specs.declared.Situation.{Situation}
 use Rattle.spinlock.proofs.Situations.{HeldBy, View, free, own, full, foreign, view}
 use Rattle.spinlock.proofs.Laws.{operated}
 use Rattle.order.specs.Outcome.{Outcome, refuse, accept}
+use Rattle.machine.specs.State.{isThread}
 use Rattle.machine.specs.declared.Current.{Current}
+use Rattle.machine.specs.declared.Setup.{Setup}
 use Rattle.machine.specs.declared.Lock.{Lock}
 use Rattle.machine.specs.declared.Run.{Run}
 use Rattle.rules.specs.Rules.{refused, done, elsewhere, ruled, wordAfter, settled, lockBy, lockOp}
 use Rattle.kept.proofs.Accepted.{Accepting}
 
 -- The lock that an accepted operation leaves with this record.
-abbrev pub leaves : ℕ → ℕ → Lock → SpinlockState → Lock
-leaves c t lock next = record { state = next; word = wordAfter c t lock next }
+abbrev pub leaves : Setup → ℕ → ℕ → Lock → SpinlockState → Lock
+leaves s c t lock next = record { state = next; word = wordAfter s c t lock next }
 
 -- Q holds of it, in each of the ways in which an operation is accepted.
-pub record Ways (c t : ℕ) (lock : Lock) (Q : Operation → Lock → Type 0) : Type 0 where
-  pub acquired : lock .state ≡ freeRecord → Q Operation.Acquire (leaves c t lock (takenBy t))
-  pub nested-first : lock .state ≡ freeRecord → Q Operation.Nested (leaves c t lock (takenBy t))
-  pub nested-more : HeldBy (lock .state) t → lock .state .«nest_count» < maxNestDepth → Q Operation.Nested (leaves c t lock (deeper (lock .state)))
-  pub released : HeldBy (lock .state) t → Q Operation.Release (leaves c t lock (shallower (lock .state)))
+pub record Ways (s : Setup) (c t : ℕ) (lock : Lock) (Q : Operation → Lock → Type 0) : Type 0 where
+  pub acquired : lock .state ≡ freeRecord → Q Operation.Acquire (leaves s c t lock (takenBy t))
+  pub nested-first : lock .state ≡ freeRecord → Q Operation.Nested (leaves s c t lock (takenBy t))
+  pub nested-more : HeldBy (lock .state) t → lock .state .«nest_count» < maxNestDepth
+      → Q Operation.Nested (leaves s c t lock (deeper (lock .state)))
+  pub released : HeldBy (lock .state) t → Q Operation.Release (leaves s c t lock (shallower (lock .state)))
 
-module _ (c t : ℕ) (lock : Lock) (valid : validRecord (lock .state) ≡ true) (Q : Operation → Lock → Type 0) (ways : Ways c t lock Q) where
+module _ (s : Setup) (c t : ℕ) (lock : Lock) (valid : validRecord (lock .state) ≡ true) (Q : Operation → Lock → Type 0)
+    (ways : Ways s c t lock Q) where
   by-view : (op : Operation) {sit : Situation} → View (lock .state) t sit
-      → Accepting (Q op) (settled c t lock (answer (codeOf op sit) (after op sit (lock .state) t)))
+      → Accepting (Q op) (settled s c t lock (answer (codeOf op sit) (after op sit (lock .state) t)))
   unfolding codeOf after
   by-view Operation.Acquire (free e) = ways .acquired e
   by-view Operation.Acquire (own _ _) = tt
   by-view Operation.Acquire (full _ _) = tt
-  by-view Operation.Acquire (foreign _ _ _) = tt
+  by-view Operation.Acquire (foreign _ _) = tt
   by-view Operation.Nested (free e) = ways .nested-first e
   by-view Operation.Nested (own mine below) = ways .nested-more mine below
   by-view Operation.Nested (full _ _) = tt
-  by-view Operation.Nested (foreign _ _ _) = tt
+  by-view Operation.Nested (foreign _ _) = tt
   by-view Operation.Release (free e) = tt
   by-view Operation.Release (own mine _) = ways .released mine
   by-view Operation.Release (full mine _) = ways .released mine
-  by-view Operation.Release (foreign _ _ _) = tt
+  by-view Operation.Release (foreign _ _) = tt
 
-  foreign-refused : (op : Operation) → Accepting (Q op) (settled c t lock (answer (codeOf op Situation.Foreign) (lock .state)))
-  unfolding codeOf
-  foreign-refused Operation.Acquire = tt
-  foreign-refused Operation.Nested = tt
-  foreign-refused Operation.Release = tt
-
-  by-rule : (op : Operation) → Accepting (Q op) (settled c t lock (ruled op c t lock))
+  by-rule : (op : Operation) → Accepting (Q op) (settled s c t lock (ruled s op c t lock))
   by-rule op =
-      bool-ind
-      (λ b. Accepting (Q op) (settled c t lock (cond b (answer (codeOf op Situation.Foreign) (lock .state)) (operate op (lock .state) t))))
-      (elsewhere c t lock) (λ _. foreign-refused op)
-      (λ _. rw (operated op (lock .state) t valid refl) (by-view op (view (lock .state) t valid)))
+      let away = elsewhere s c t lock in
+      rw (operated op (lock .state) t away valid refl) (by-view op (view (lock .state) t away valid))
 
 -- A refusal has another code than OK; what is accepted has OK, and Q.
 abbrev pub Told : (Lock → Type 0) → Outcome (Answer ℕ) Lock → Type 0
 Told Q (refuse a) = isOK (a .code) ≡ false
 Told Q (accept a v) = (isOK (a .code) ≡ true) × Q v
 
-module _ (Q : Lock → Type 0) (c t : ℕ) (lock : Lock) (a : Answer SpinlockState) where
+module _ (Q : Lock → Type 0) (s : Setup) (c t : ℕ) (lock : Lock) (a : Answer SpinlockState) where
   abbrev outcome : Bool → Outcome (Answer ℕ) Lock
-  outcome b =
-      cond b (done (a .value .«nest_count») (record { state = a .value; word = wordAfter c t lock (a .value) }))
-      (refused (a .code) (a .value .«nest_count»))
+  outcome b = cond b (done (a .value .«nest_count») (leaves s c t lock (a .value))) (refused (a .code) (a .value .«nest_count»))
 
   told : (b : Bool) → isOK (a .code) ≡ b → Accepting Q (outcome b) → Told Q (outcome b)
   told true e q = (refl, q)
   told false e q = e
 
-  settled-told : Accepting Q (settled c t lock a) → Told Q (settled c t lock a)
+  settled-told : Accepting Q (settled s c t lock a) → Told Q (settled s c t lock a)
   settled-told q = told (isOK (a .code)) refl q
 
 -- The walk: what the rule tells of an operation by the CPU's current thread.
-pub walked : (c : ℕ) (run : Run) (lock : Lock) → validRecord (lock .state) ≡ true → (Q : Operation → Lock → Type 0)
-    → ((t : ℕ) → run .current ≡ Current.Thread (record { 0 = t }) → Ways c t lock Q) → (op : Operation) → Told (Q op) (lockOp op c run lock)
+pub walked : (s : Setup) (c : ℕ) (run : Run) (lock : Lock) → validRecord (lock .state) ≡ true → (Q : Operation → Lock → Type 0)
+    → ((t : ℕ) → run .current ≡ Current.Thread (record { 0 = t }) → Ways s c t lock Q) → (op : Operation)
+    → Told (Q op) (lockOp s op c run lock)
 unfolding lockOp
-walked c run lock valid Q ways op = go (run .current) refl
+walked s c run lock valid Q ways op = go (run .current) refl
   where
-    go : (o : Current) → run .current ≡ o → Told (Q op) (lockBy op c o lock)
+    go : (o : Current) → run .current ≡ o → Told (Q op) (lockBy s op c o lock)
     go Current.None e = refl
     go (Current.Thread t) e =
-        settled-told (Q op) c (t .0) lock (ruled op c (t .0) lock) (by-rule c (t .0) lock valid Q (ways (t .0) e) op)
+        let rule = ruled s op c (t .0) lock in
+        bool-ind (λ b. Told (Q op) (cond b (settled s c (t .0) lock rule) (refused EINVAL (lock .state .«nest_count»)))) (isThread (t .0))
+        (λ _. settled-told (Q op) s c (t .0) lock rule (by-rule s c (t .0) lock valid Q (ways (t .0) e) op)) (λ _. refl)
 
 pub told-accepting : (Q : Lock → Type 0) (o : Outcome (Answer ℕ) Lock) → Told Q o → Accepting Q o
 told-accepting Q (refuse a) e = tt

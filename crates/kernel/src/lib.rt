@@ -94,15 +94,11 @@ fn mask_of_flags(
 ) -> CpuMaskResult
     ensures { λ r. ⌜ maskSays r ≡ maskOfFlags «current_mask» enable disable «is_running» «pin_only» ⌝ }
 {
-    let refused = CpuMaskResult {
-        mask: current_mask,
-        error: Code::Einval,
-    };
-    if is_running > 1 {
-        return refused;
-    }
-    if pin_only > 1 {
-        return refused;
+    if !((is_running <= 1) & (pin_only <= 1)) {
+        return CpuMaskResult {
+            mask: current_mask,
+            error: Code::Einval,
+        };
     }
     cpu_mask::cpu_mask_mod(
         current_mask,
@@ -113,7 +109,8 @@ fn mask_of_flags(
     )
 }
 
-// The mask with bits enabled and then disabled: 4 bytes. A refusal does not write the current mask.
+// The mask with bits enabled and then disabled: 4 bytes. A refusal does not write the current mask. The two codes that the rule gives are told
+// apart by one test: a jump by the code costs more than the rule (docs/PERFORMANCE.md).
 #[no_mangle]
 pub extern "C" fn hubcrackle_cpu_mask_mod(
     current_mask: u32,
@@ -128,7 +125,11 @@ pub extern "C" fn hubcrackle_cpu_mask_mod(
 {
     let changed = mask_of_flags(current_mask, enable, disable, is_running, pin_only);
     let code = changed.error;
-    lent_room::put_mask(out, code, changed.mask)
+    if error::is_ok(code) {
+        lent_room::put_mask(out, Code::Ok, changed.mask)
+    } else {
+        lent_room::put_mask(out, Code::Einval, changed.mask)
+    }
 }
 
 // Whether a mask names exactly one CPU: 1 byte.

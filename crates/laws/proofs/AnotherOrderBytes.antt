@@ -14,10 +14,10 @@ use Rattle.rearranged.proofs.Bytes.{rearranged-bytes, rearranged-response}
 
 -- The runner, on any machine and with any room.
 pub another-order-run : (m : Machine) (old new room : List ℕ) (π : ℕ → ℕ) → length new ≡ length old
-    → Rearranged (m .n) (length old / 12) old new π → SameBytes m old new room π
+    → Rearranged (m .setup) (length old / 12) old new π → SameBytes m old new room π
 another-order-run = rearranged-bytes
 
 -- The program, from any setup byte and with any room.
 pub another-order-program : (byte : ℕ) (old new room : List ℕ) (π : ℕ → ℕ) → length new ≡ length old
-    → Rearranged (setup byte .value .n) (length old / 12) old new π → SameResponse byte old new room π
+    → Rearranged (setup byte .value .setup) (length old / 12) old new π → SameResponse byte old new room π
 another-order-program = rearranged-response

@@ -7,21 +7,22 @@ use mathlib.Core.Bool.{true}
 use mathlib.Core.List.{List}
 use Prim.Native.Nat.{ℕ}
 use Rattle.words.specs.Tag.{cpuOf}
-use Rattle.spinlock_validate.specs.Owner.{tagBits}
 use Rattle.spinlock.specs.declared.Owner.{Owner}
-use Rattle.machine.specs.State.{cpuAt, lockAt}
+use Rattle.spinlock.specs.declared.Operation.{Operation as LockOperation}
+use Rattle.machine.specs.State.{tagBits, cpuAt, lockAt}
 use Rattle.machine.specs.declared.CpuId.{CpuId}
 use Rattle.machine.specs.declared.LockId.{LockId}
 use Rattle.machine.specs.declared.Current.{Current}
 use Rattle.machine.specs.declared.Machine.{Machine}
-use Rattle.record.specs.declared.Request.{Request}
+use Rattle.record.specs.Record.{request}
+use Rattle.record.specs.declared.Operation.{Operation}
 use Rattle.wellformed.specs.WellFormed.{wellFormed}
 use Rattle.job.specs.Job.{Holder, Accepted}
 use Rattle.job.proofs.Exclusion as Job
 
--- Lock l is held: its record names thread t, and its word CPU c. The call comes from CPU d.
+-- Lock l is held: its record names thread t, and its word CPU c. The call comes from CPU d. (It uses no thread: its number z is any.)
 module _ (m : Machine) (formed : wellFormed m ≡ true) (l : LockId) (c t : ℕ) (thread : lockAt m (l .0) .state .owner ≡ Owner.Thread t)
-    (cpu : cpuOf tagBits (lockAt m (l .0) .word) ≡ c) (bytes : List ℕ) (d : CpuId) where
+    (cpu : cpuOf (tagBits (m .setup)) (lockAt m (l .0) .word) ≡ c) (bytes : List ℕ) (d : CpuId) where
   -- It comes from CPU c, which runs thread t.
   abbrev FromHolder : Type 0
   FromHolder = (d .0 ≡ c) × (cpuAt m (d .0) .run .current ≡ Current.Thread (record { 0 = t }))
@@ -29,11 +30,11 @@ module _ (m : Machine) (formed : wellFormed m ≡ true) (l : LockId) (c t : ℕ)
   from : Holder m (l .0) (d .0) t → FromHolder
   from h = (sym (h .cpu) ∙ cpu, h .thread)
 
-  pub acquire-excluded : Accepted m bytes (Request.Acquire d l) → FromHolder
+  pub acquire-excluded : {z : ℕ} → Accepted m bytes (request (Operation.OnLock LockOperation.Acquire) (d .0) z (l .0)) → FromHolder
   acquire-excluded a = from (Job.acquired-by-holder m formed bytes d l t thread a)
 
-  pub nested-excluded : Accepted m bytes (Request.Nested d l) → FromHolder
+  pub nested-excluded : {z : ℕ} → Accepted m bytes (request (Operation.OnLock LockOperation.Nested) (d .0) z (l .0)) → FromHolder
   nested-excluded a = from (Job.nested-by-holder m formed bytes d l t thread a)
 
-  pub release-excluded : Accepted m bytes (Request.Release d l) → FromHolder
+  pub release-excluded : {z : ℕ} → Accepted m bytes (request (Operation.OnLock LockOperation.Release) (d .0) z (l .0)) → FromHolder
   release-excluded a = from (Job.released-by-holder m formed bytes d l t thread a)

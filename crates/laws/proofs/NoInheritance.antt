@@ -13,10 +13,12 @@ use Rattle.machine.specs.declared.ThreadId.{ThreadId}
 use Rattle.machine.specs.declared.Current.{Current}
 use Rattle.machine.specs.declared.Place.{Place}
 use Rattle.machine.specs.declared.Machine.{Machine}
-use Rattle.record.specs.declared.Request.{Request}
+use Rattle.record.specs.Record.{request}
+use Rattle.record.specs.declared.CpuOperation.{CpuOperation}
+use Rattle.record.specs.declared.Operation.{Operation}
 use Rattle.wellformed.specs.WellFormed.{wellFormed}
 use Rattle.wellformed.proofs.Facts.{says}
-use Rattle.runner.specs.Step.{next}
+use Rattle.operations.specs.Asked.{next}
 use Rattle.kept.proofs.Lengths.{Lengths}
 use Rattle.job.specs.Job.{OwnsNothing, HoldsNothing, Accepted}
 use Rattle.job.proofs.NoInheritance as Job
@@ -28,10 +30,12 @@ module _ (m : Machine) (formed : wellFormed m ≡ true) where
   pub idle-cpu : (c : ℕ) → c < cpuSlots → cpuAt m c .run .current ≡ Current.None → HoldsNothing m c
   idle-cpu = Job.no-current m (says m formed)
 
-  -- `Lengths`: 4 CPUs, 32 threads and 128 locks, as every machine value has them.
+  -- `Lengths`: 4 CPUs, 32 threads and 128 locks, as every machine value has them. (Neither request uses a lock: its number z is any.)
   module _ (size : Lengths m) (bytes : List ℕ) (c : CpuId) (t : ThreadId) where
-    pub after-take : Accepted m bytes (Request.Take c t) → OwnsNothing (next m bytes) (t .0) × HoldsNothing (next m bytes) (c .0)
+    pub after-take : {z : ℕ} → Accepted m bytes (request (Operation.OnCpu CpuOperation.Take) (c .0) (t .0) z)
+        → OwnsNothing (next m bytes) (t .0) × HoldsNothing (next m bytes) (c .0)
     after-take = Job.after-take m size formed bytes c t
 
-    pub after-put : Accepted m bytes (Request.Put c t) → OwnsNothing (next m bytes) (t .0) × HoldsNothing (next m bytes) (c .0)
+    pub after-put : {z : ℕ} → Accepted m bytes (request (Operation.OnCpu CpuOperation.Put) (c .0) (t .0) z)
+        → OwnsNothing (next m bytes) (t .0) × HoldsNothing (next m bytes) (c .0)
     after-put = Job.after-put m size formed bytes c t

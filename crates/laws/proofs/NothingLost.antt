@@ -6,17 +6,20 @@ use mathlib.Core.Path.{_≡_}
 use mathlib.Core.Bool.{true}
 use mathlib.Core.List.{List}
 use Prim.Native.Nat.{ℕ}
+use Rattle.spinlock.specs.declared.Operation.{Operation as LockOperation}
 use Rattle.machine.specs.declared.CpuId.{CpuId}
 use Rattle.machine.specs.declared.LockId.{LockId}
 use Rattle.machine.specs.declared.Machine.{Machine}
-use Rattle.record.specs.declared.Request.{Request}
+use Rattle.record.specs.Record.{request}
+use Rattle.record.specs.declared.Operation.{Operation}
 use Rattle.wellformed.specs.WellFormed.{wellFormed}
-use Rattle.runner.specs.Step.{next}
+use Rattle.operations.specs.Asked.{next}
 use Rattle.kept.proofs.Lengths.{Lengths}
 use Rattle.job.specs.Job.{Accepted, Gives}
 use Rattle.job.proofs.Undone as Job
 
--- `Gives m c l x`: on machine x a release of l by c is accepted and gives m. `Lengths`: 4 CPUs, 32 threads and 128 locks.
-pub nothing-lost : (m : Machine) → Lengths m → wellFormed m ≡ true → (bytes : List ℕ) (c : CpuId) (l : LockId)
-    → Accepted m bytes (Request.Nested c l) → Gives m c l (next m bytes)
+-- `Gives m c l x`: on machine x a release of l by c is accepted and gives m. `Lengths`: 4 CPUs, 32 threads and 128 locks. (An acquire
+-- uses no thread: its number z is any.)
+pub nothing-lost : (m : Machine) → Lengths m → wellFormed m ≡ true → (bytes : List ℕ) (c : CpuId) (l : LockId) {z : ℕ}
+    → Accepted m bytes (request (Operation.OnLock LockOperation.Nested) (c .0) z (l .0)) → Gives m c l (next m bytes)
 nothing-lost = Job.nothing-lost

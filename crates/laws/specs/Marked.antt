@@ -18,7 +18,7 @@ use Rattle.ipi.specs.Ipi.{computeIpiMask}
 use Rattle.ipi.specs.declared.CpuRecord.{CpuRecord}
 use Rattle.machine.specs.State.{setup, cpuAt, lockAt}
 use Rattle.machine.specs.declared.Machine.{Machine}
-use Rattle.runner.specs.Run.{stateAt}
+use Rattle.operations.specs.Log.{stateAt}
 use Rattle.program.specs.Program.{respondRoom}
 
 -- A row: example n, what a rule gives and what it should give.

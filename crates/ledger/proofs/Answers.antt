@@ -1,41 +1,45 @@
--- The answer bytes of a run tell which records were accepted. Every answer has one of the seven codes of 01, by the request and within a rule
+-- The answer bytes of a run tell which records were accepted. Every answer has one of the seven codes of 01, by the operation and within a rule
 -- by its tests; so its code fits the four bytes that it is written in, and is read back from them. Assumes nothing.
 use mathlib.Core.Path.{_≡_, refl, ap, _∙_}
 use mathlib.Core.Bool.{Bool, true, false, _&&_, _||_, not, cond}
 use mathlib.Core.List.{List}
 use Prim.Native.Nat.{ℕ, _/_, _<_}
-use lib.Dec.{eqb, ltb, leb, lit<}
+use lib.Dec.{eqb, lit<}
 use lib.IntN.{ℤ}
 use lib.ListN.{length}
 use Rattle.error.specs.Codes.{numberOf, isOK}
 use Rattle.error.specs.Answer.{Answer}
 use Rattle.error.specs.declared.Code.{Code}
+use Rattle.answers.specs.Answer.{decodeAnswer}
+use Rattle.answers.proofs.Laws.{code-back}
 use Rattle.words.specs.Bit.{bit, bitNot}
 use Rattle.words.specs.Signed.{SignedFits}
 use Rattle.spinlock.specs.Table.{codeOf}
-use Rattle.spinlock.specs.Lock.{validRecord, situationOf, operate}
+use Rattle.spinlock.specs.Lock.{validRecord, situationAt, operate}
 use Rattle.spinlock.specs.declared.SpinlockState.{SpinlockState}
-use Rattle.spinlock.specs.declared.Operation.{Operation}
+use Rattle.spinlock.specs.declared.Operation.{Operation as LockOperation}
 use Rattle.spinlock.specs.declared.Situation.{Situation}
 use Rattle.cpu_mask.specs.Mask.{maskBits, newMask, validatePinMask, cpuMaskMod}
-use Rattle.ipi.specs.Ipi.{maxIpiCpus, computeIpiMask}
+use Rattle.ipi.specs.Ipi.{maxIpiCpus, countsFit, computeIpiMask}
 use Rattle.order.specs.Outcome.{Outcome, refuse, accept, answerOf}
 use Rattle.order.specs.Cells.{reply}
-use Rattle.machine.specs.State.{isCurrent, cpuAt, threadAt, lockAt}
+use Rattle.machine.specs.State.{isThread, isCurrent, cpuAt, threadAt, lockAt}
 use Rattle.machine.specs.declared.Current.{Current}
+use Rattle.machine.specs.declared.Setup.{Setup}
 use Rattle.machine.specs.declared.Run.{Run}
 use Rattle.machine.specs.declared.Thread.{Thread}
 use Rattle.machine.specs.declared.Lock.{Lock}
 use Rattle.machine.specs.declared.Machine.{Machine}
-use Rattle.record.specs.Answer.{decodeAnswer}
 use Rattle.record.specs.Record.{requestOf}
-use Rattle.record.specs.declared.Request.{Request}
-use Rattle.record.proofs.Laws.{code-back}
+use Rattle.record.specs.declared.CpuOperation.{CpuOperation}
+use Rattle.record.specs.declared.ThreadOperation.{ThreadOperation}
+use Rattle.record.specs.declared.Operation.{Operation}
 use Rattle.rules.specs.Rules as Rules
-use Rattle.runner.specs.Cells.{machineStore}
-use Rattle.runner.specs.Operations.{one, two, withHold, operation}
-use Rattle.runner.specs.Step.{answered}
-use Rattle.runner.specs.Run.{recordAt, stateAt, answerAt, ran, ranRoom}
+use Rattle.operations.specs.Cells.{machineStore}
+use Rattle.operations.specs.Operations.{one, two, withHold, onCpu, onLock, onThread, operationBy}
+use Rattle.operations.specs.Asked.{answered}
+use Rattle.operations.specs.Log.{recordAt, stateAt, answerAt}
+use Rattle.runner.specs.Run.{ran, ranRoom}
 use Rattle.rearranged.proofs.Bytes.{place-of-run}
 use Rattle.ledger.specs.Ledger.{acceptedAt}
 
@@ -85,34 +89,36 @@ take-coded t h r k =
     (either CodedOutcome (not (eqb h 0)) _ _ (is-code Code.Ebusy) (is-code Code.Ok))
 
 -- Operations 4, 5 and 6, by the table of codes.
-table-code : (op : Operation) (sit : Situation) → IsCode (codeOf op sit)
+table-code : (op : LockOperation) (sit : Situation) → IsCode (codeOf op sit)
 unfolding codeOf
-table-code Operation.Acquire Situation.Free = is-code Code.Ok
-table-code Operation.Acquire Situation.Own = is-code Code.Ebusy
-table-code Operation.Acquire Situation.Full = is-code Code.Ebusy
-table-code Operation.Acquire Situation.Foreign = is-code Code.Ebusy
-table-code Operation.Nested Situation.Free = is-code Code.Ok
-table-code Operation.Nested Situation.Own = is-code Code.Ok
-table-code Operation.Nested Situation.Full = is-code Code.Ebusy
-table-code Operation.Nested Situation.Foreign = is-code Code.Ebusy
-table-code Operation.Release Situation.Free = is-code Code.Eperm
-table-code Operation.Release Situation.Own = is-code Code.Ok
-table-code Operation.Release Situation.Full = is-code Code.Ok
-table-code Operation.Release Situation.Foreign = is-code Code.Eperm
+table-code LockOperation.Acquire Situation.Free = is-code Code.Ok
+table-code LockOperation.Acquire Situation.Own = is-code Code.Ebusy
+table-code LockOperation.Acquire Situation.Full = is-code Code.Ebusy
+table-code LockOperation.Acquire Situation.Foreign = is-code Code.Ebusy
+table-code LockOperation.Nested Situation.Free = is-code Code.Ok
+table-code LockOperation.Nested Situation.Own = is-code Code.Ok
+table-code LockOperation.Nested Situation.Full = is-code Code.Ebusy
+table-code LockOperation.Nested Situation.Foreign = is-code Code.Ebusy
+table-code LockOperation.Release Situation.Free = is-code Code.Eperm
+table-code LockOperation.Release Situation.Own = is-code Code.Ok
+table-code LockOperation.Release Situation.Full = is-code Code.Ok
+table-code LockOperation.Release Situation.Foreign = is-code Code.Eperm
 
-operate-coded : (op : Operation) (s : SpinlockState) (t : ℕ) → Coded (operate op s t)
+operate-coded : (op : LockOperation) (s : SpinlockState) (t : ℕ) (elsewhere : Bool) → Coded (operate op s t elsewhere)
 unfolding operate
-operate-coded op s t = either Coded (validRecord s) _ _ (table-code op (situationOf s t)) (is-code Code.Einval)
+operate-coded op s t elsewhere = either Coded (validRecord s) _ _ (table-code op (situationAt s t elsewhere)) (is-code Code.Einval)
 
-lock-coded : (op : Operation) (c : ℕ) (r : Run) (k : Lock) → CodedOutcome (Rules.lockOp op c r k)
+lock-coded : (s : Setup) (op : LockOperation) (c : ℕ) (r : Run) (k : Lock) → CodedOutcome (Rules.lockOp s op c r k)
 unfolding Rules.lockOp
-lock-coded op c r k = by (r .current)
+lock-coded s op c r k = by (r .current)
   where
-    by : (o : Current) → CodedOutcome (Rules.lockBy op c o k)
+    by : (o : Current) → CodedOutcome (Rules.lockBy s op c o k)
     by Current.None = is-code Code.Einval
     by (Current.Thread t) =
-        either CodedOutcome (isOK (Rules.ruled op c (t .0) k .code)) _ _ (is-code Code.Ok)
-        (either Coded (Rules.elsewhere c (t .0) k) _ _ (table-code op Situation.Foreign) (operate-coded op (k .state) (t .0)))
+        either CodedOutcome (isThread (t .0)) _ _
+        (either CodedOutcome (isOK (Rules.ruled s op c (t .0) k .code)) _ _ (is-code Code.Ok)
+        (operate-coded op (k .state) (t .0) (Rules.elsewhere s c (t .0) k)))
+        (is-code Code.Einval)
 
 -- Operations 7, 8 and 9.
 mod-coded : (current enable disable : ℕ) (running pinOnly : Bool) → Coded (cpuMaskMod current enable disable running pinOnly)
@@ -121,24 +127,24 @@ mod-coded current enable disable running pinOnly =
     either Coded running _ _ (is-code Code.Einval)
     (either Coded (pinOnly && not (validatePinMask (newMask current enable disable))) _ _ (is-code Code.Einval) (is-code Code.Ok))
 
-mask-coded : (enable disable : ℕ) (pinOnly : Bool) (k : Thread) → CodedOutcome (Rules.mask enable disable pinOnly k)
+mask-coded : (s : Setup) (enable disable : ℕ) (k : Thread) → CodedOutcome (Rules.mask s enable disable k)
 unfolding Rules.mask
-mask-coded enable disable pinOnly k =
-    either CodedOutcome (isOK (cpuMaskMod (k .mask) enable disable (Rules.placed (k .place)) pinOnly .code)) _ _ (is-code Code.Ok)
-    (mod-coded (k .mask) enable disable (Rules.placed (k .place)) pinOnly)
+mask-coded s enable disable k =
+    either CodedOutcome (isOK (cpuMaskMod (k .mask) enable disable (Rules.placed (k .place)) (s .«pin_only») .code)) _ _ (is-code Code.Ok)
+    (mod-coded (k .mask) enable disable (Rules.placed (k .place)) (s .«pin_only»))
 
-pin-coded : (c : ℕ) (pinOnly : Bool) (k : Thread) → CodedOutcome (Rules.pin c pinOnly k)
+pin-coded : (s : Setup) (c : ℕ) (k : Thread) → CodedOutcome (Rules.pin s c k)
 unfolding Rules.pin
-pin-coded c pinOnly k = mask-coded (Rules.cpuBit c) (bitNot maskBits (Rules.cpuBit c)) pinOnly k
+pin-coded s c k = mask-coded s (Rules.cpuBit c) (bitNot maskBits (Rules.cpuBit c)) k
 
 priority-coded : (a : ℤ) (k : Thread) → CodedOutcome (Rules.priority a k)
 unfolding Rules.priority
 priority-coded a k = either CodedOutcome (Rules.placed (k .place)) _ _ (is-code Code.Ebusy) (is-code Code.Ok)
 
 -- Operations 10 and 11.
-ipi-coded : (c n : ℕ) (r0 r1 r2 r3 : Run) (k : Thread) → Coded (Rules.ipi c n r0 r1 r2 r3 k)
+ipi-coded : (s : Setup) (c : ℕ) (r0 r1 r2 r3 : Run) (k : Thread) → Coded (Rules.ipi s c r0 r1 r2 r3 k)
 unfolding Rules.ipi computeIpiMask
-ipi-coded c n r0 r1 r2 r3 k = either Coded (leb maxIpiCpus maxIpiCpus && (leb n maxIpiCpus && ltb c n)) _ _ (is-code Code.Ok) (is-code Code.Einval)
+ipi-coded s c r0 r1 r2 r3 k = either Coded (countsFit c (s .n) maxIpiCpus) _ _ (is-code Code.Ok) (is-code Code.Einval)
 
 owner-coded : (k : Lock) → Coded (Rules.owner k)
 unfolding Rules.owner
@@ -153,7 +159,7 @@ two-coded : {W X : Type 0} (o : Outcome (Answer ℕ) (W × X)) → CodedOutcome 
 two-coded (refuse a) h = h
 two-coded (accept a w) h = h
 
-hold-coded : (op : Operation) (h : ℕ) (o : Outcome (Answer ℕ) Lock) → CodedOutcome o → CodedOutcome (withHold op h o)
+hold-coded : (op : LockOperation) (h : ℕ) (o : Outcome (Answer ℕ) Lock) → CodedOutcome o → CodedOutcome (withHold op h o)
 hold-coded op h (refuse a) c = c
 hold-coded op h (accept a k) c = c
 
@@ -162,33 +168,38 @@ module _ (m : Machine) where
   abbrev runOf : ℕ → Run
   runOf c = cpuAt m c .run
 
-  lock-request : (op : Operation) (c l : ℕ) → CodedOutcome (withHold op (cpuAt m c .hold) (Rules.lockOp op c (runOf c) (lockAt m l)))
-  lock-request op c l = hold-coded op (cpuAt m c .hold) (Rules.lockOp op c (runOf c) (lockAt m l)) (lock-coded op c (runOf c) (lockAt m l))
+  -- The answer to an operation, by its family.
+  cpu-request : (op : CpuOperation) (c t : ℕ) → Coded (reply machineStore (Answer ℕ) m (onCpu op c t))
+  cpu-request CpuOperation.Up c t = one-coded (Rules.up (runOf c)) (up-coded (runOf c))
+  cpu-request CpuOperation.Down c t = one-coded (Rules.down (runOf c)) (down-coded (runOf c))
+  cpu-request CpuOperation.Put c t = two-coded (Rules.put c t (runOf c) (threadAt m t)) (put-coded c t (runOf c) (threadAt m t))
+  cpu-request CpuOperation.Take c t =
+      let held = cpuAt m c .hold in
+      two-coded (Rules.take t held (runOf c) (threadAt m t)) (take-coded t held (runOf c) (threadAt m t))
 
-  request-coded : (r : Request) → Coded (reply machineStore (Answer ℕ) m (operation (m .n) (m .«pin_only») r))
-  request-coded Request.Malformed = is-code Code.Einval
-  request-coded (Request.Up c) = one-coded (Rules.up (runOf (c .0))) (up-coded (runOf (c .0)))
-  request-coded (Request.Down c) = one-coded (Rules.down (runOf (c .0))) (down-coded (runOf (c .0)))
-  request-coded (Request.Put c t) =
-      two-coded (Rules.put (c .0) (t .0) (runOf (c .0)) (threadAt m (t .0))) (put-coded (c .0) (t .0) (runOf (c .0)) (threadAt m (t .0)))
-  request-coded (Request.Take c t) =
-      let held = cpuAt m (c .0) .hold in
-      two-coded (Rules.take (t .0) held (runOf (c .0)) (threadAt m (t .0))) (take-coded (t .0) held (runOf (c .0)) (threadAt m (t .0)))
-  request-coded (Request.Acquire c l) = lock-request Operation.Acquire (c .0) (l .0)
-  request-coded (Request.Nested c l) = lock-request Operation.Nested (c .0) (l .0)
-  request-coded (Request.Release c l) = lock-request Operation.Release (c .0) (l .0)
-  request-coded (Request.Mask t enable disable) =
-      one-coded (Rules.mask enable disable (m .«pin_only») (threadAt m (t .0))) (mask-coded enable disable (m .«pin_only») (threadAt m (t .0)))
-  request-coded (Request.Pin t c) =
-      one-coded (Rules.pin (c .0) (m .«pin_only») (threadAt m (t .0))) (pin-coded (c .0) (m .«pin_only») (threadAt m (t .0)))
-  request-coded (Request.Priority t a) = one-coded (Rules.priority a (threadAt m (t .0))) (priority-coded a (threadAt m (t .0)))
-  request-coded (Request.Ipi c t) = ipi-coded (c .0) (m .n) (runOf 0) (runOf 1) (runOf 2) (runOf 3) (threadAt m (t .0))
-  request-coded (Request.Owner l) = owner-coded (lockAt m (l .0))
+  lock-request : (op : LockOperation) (c l : ℕ) → Coded (reply machineStore (Answer ℕ) m (onLock (m .setup) op c l))
+  lock-request op c l =
+      hold-coded op (cpuAt m c .hold) (Rules.lockOp (m .setup) op c (runOf c) (lockAt m l)) (lock-coded (m .setup) op c (runOf c) (lockAt m l))
+
+  thread-request : (op : ThreadOperation) (c t : ℕ) → Coded (reply machineStore (Answer ℕ) m (onThread (m .setup) op c t))
+  thread-request (ThreadOperation.Mask enable disable) c t =
+      one-coded (Rules.mask (m .setup) enable disable (threadAt m t)) (mask-coded (m .setup) enable disable (threadAt m t))
+  thread-request ThreadOperation.Pin c t = one-coded (Rules.pin (m .setup) c (threadAt m t)) (pin-coded (m .setup) c (threadAt m t))
+  thread-request (ThreadOperation.Priority a) c t = one-coded (Rules.priority a (threadAt m t)) (priority-coded a (threadAt m t))
+
+  operation-coded : (op : Operation) (c t l : ℕ) → Coded (reply machineStore (Answer ℕ) m (operationBy (m .setup) op c t l))
+  operation-coded Operation.Malformed c t l = is-code Code.Einval
+  operation-coded (Operation.OnCpu op) c t l = cpu-request op c t
+  operation-coded (Operation.OnLock op) c t l = lock-request op c l
+  operation-coded (Operation.OnThread op) c t l = thread-request op c t
+  operation-coded Operation.Ipi c t l = ipi-coded (m .setup) c (runOf 0) (runOf 1) (runOf 2) (runOf 3) (threadAt m t)
+  operation-coded Operation.Owner c t l = owner-coded (lockAt m l)
 
   -- Every answer has one of the seven codes.
   pub answered-coded : (bytes : List ℕ) → IsCode (answered m bytes .code)
   unfolding answered
-  answered-coded bytes = request-coded (requestOf (m .n) bytes)
+  answered-coded bytes =
+      let r = requestOf (m .setup) bytes in operation-coded (r .operation) (r .cpu .0) (r .thread .0) (r .lock .0)
 
 -- The seven fit in 32 bits, two's complement.
 number-fits : (c : Code) → SignedFits 31 (numberOf c)

@@ -1,5 +1,5 @@
 -- The ledger of 01: from a fresh machine of either pin-only setting and any number of CPUs, after every prefix of every log that the runner
--- runs. The counts are of n, the log's bytes and the bytes that the run leaves in the answer buffer. A fresh machine's books are at 0; the rest
+-- runs. The counts are of the setup, the log's bytes and the bytes that the run leaves in the answer buffer. A fresh machine's books are at 0; the rest
 -- is `ledger-from`. Assumes nothing.
 use mathlib.Core.Path.{_≡_, refl, ap}
 use mathlib.Core.Bool.{Bool, true, false}
@@ -9,48 +9,54 @@ use native.Mathlib.Omega.{arith}
 use lib.Count.{ones}
 use lib.ListN.{length, getD-replicate}
 use Rattle.error.specs.Codes.{isOK}
+use Rattle.words.specs.Below.{allBelow}
 use Rattle.words.specs.Bit.{bit}
 use Rattle.spinlock.specs.Lock.{validRecord}
-use Rattle.machine.specs.State.{cpuSlots, lockCount, noCpu, freshCpu, freeLock, threadMask, freshMachine}
+use Rattle.machine.specs.State.{cpuSlots, lockCount, isPriority, noCpu, freshCpu, freeLock, threadMask, freshMachine}
+use Rattle.machine.specs.declared.Setup.{Setup}
 use Rattle.machine.specs.declared.Cpu.{Cpu}
 use Rattle.machine.specs.declared.Lock.{Lock}
 use Rattle.machine.specs.declared.Machine.{Machine}
-use Rattle.wellformed.specs.WellFormed.{allBelow, sumBelow, wellFormed}
-use Rattle.runner.specs.Run.{stateAt, ran, ranRoom}
+use Rattle.wellformed.specs.WellFormed.{sumBelow, wellFormed}
+use Rattle.operations.specs.Log.{stateAt}
+use Rattle.runner.specs.Run.{ran, ranRoom}
 use Rattle.kept.proofs.Lengths.{fresh-lengths}
 use Rattle.kept.proofs.Laws.{states-keep}
-use Rattle.ledger.specs.Ledger.{Book, ofLock, ofCpu, acquires, releases, balance, InBooks}
+use Rattle.ledger.specs.Ledger.{Book, ofLock, ofCpu, acquires, releases, balance, InBooks, freshOf}
 use Rattle.ledger.proofs.Laws.{ledger-from}
 
 -- A fresh machine is well-formed, and its books are at 0.
-pub fresh-formed : (n : ℕ) (pinOnly : Bool) → 1 ≤ n → n ≤ cpuSlots → wellFormed (freshMachine n pinOnly) ≡ true
-unfolding wellFormed allBelow sumBelow freshMachine threadMask validRecord ones bit
-fresh-formed zero pinOnly some few = absurd (omega arith)
-fresh-formed (suc zero) true some few = refl
-fresh-formed (suc zero) false some few = refl
-fresh-formed (suc (suc zero)) true some few = refl
-fresh-formed (suc (suc zero)) false some few = refl
-fresh-formed (suc (suc (suc zero))) true some few = refl
-fresh-formed (suc (suc (suc zero))) false some few = refl
-fresh-formed (suc (suc (suc (suc zero)))) true some few = refl
-fresh-formed (suc (suc (suc (suc zero)))) false some few = refl
-fresh-formed (suc (suc (suc (suc (suc n))))) pinOnly some few = absurd (omega arith)
+formed-by : (n : ℕ) (pinOnly : Bool) → 1 ≤ n → n ≤ cpuSlots → wellFormed (freshOf (record { n = n; «pin_only» = pinOnly })) ≡ true
+unfolding wellFormed allBelow sumBelow isPriority freshMachine threadMask validRecord ones bit
+formed-by zero pinOnly some few = absurd (omega arith)
+formed-by (suc zero) true some few = refl
+formed-by (suc zero) false some few = refl
+formed-by (suc (suc zero)) true some few = refl
+formed-by (suc (suc zero)) false some few = refl
+formed-by (suc (suc (suc zero))) true some few = refl
+formed-by (suc (suc (suc zero))) false some few = refl
+formed-by (suc (suc (suc (suc zero)))) true some few = refl
+formed-by (suc (suc (suc (suc zero)))) false some few = refl
+formed-by (suc (suc (suc (suc (suc n))))) pinOnly some few = absurd (omega arith)
 
-fresh-balance : (n : ℕ) (pinOnly : Bool) (book : Book) → InBooks book → balance (freshMachine n pinOnly) book ≡ 0
+pub fresh-formed : (s : Setup) → 1 ≤ s .n → s .n ≤ cpuSlots → wellFormed (freshOf s) ≡ true
+fresh-formed s some few = formed-by (s .n) (s .«pin_only») some few
+
+fresh-balance : (s : Setup) (book : Book) → InBooks book → balance (freshOf s) book ≡ 0
 unfolding freshMachine
-fresh-balance n pinOnly (ofLock l) b = ap (λ (x : Lock). x .state .«nest_count») (getD-replicate lockCount l freeLock freeLock b)
-fresh-balance n pinOnly (ofCpu c) b = ap (λ (x : Cpu). x .hold) (getD-replicate cpuSlots c freshCpu noCpu b)
+fresh-balance s (ofLock l) b = ap (λ (x : Lock). x .state .«nest_count») (getD-replicate lockCount l freeLock freeLock b)
+fresh-balance s (ofCpu c) b = ap (λ (x : Cpu). x .hold) (getD-replicate cpuSlots c freshCpu noCpu b)
 
 -- After the first k records: a lock's depth and the accepted releases of it are together the accepted acquires of it, and a CPU's hold and the
 -- accepted releases by it are together the accepted acquires by it.
-pub ledger : (n : ℕ) (pinOnly : Bool) → 1 ≤ n → n ≤ cpuSlots → (log room : List ℕ)
-    → isOK (ran (freshMachine n pinOnly) log (length room) .code) ≡ true → (k : ℕ) → k ≤ length log / 12 → (book : Book) → InBooks book
-    → balance (stateAt (freshMachine n pinOnly) log k) book + releases book n log (ranRoom (freshMachine n pinOnly) log room) k
-    ≡ acquires book n log (ranRoom (freshMachine n pinOnly) log room) k
+pub ledger : (s : Setup) → 1 ≤ s .n → s .n ≤ cpuSlots → (log room : List ℕ)
+    → isOK (ran (freshOf s) log (length room) .code) ≡ true → (k : ℕ) → k ≤ length log / 12 → (book : Book) → InBooks book
+    → balance (stateAt (freshOf s) log k) book + releases book s log (ranRoom (freshOf s) log room) k
+    ≡ acquires book s log (ranRoom (freshOf s) log room) k
 unfolding freshMachine
-ledger n pinOnly some few log room ok k h book b =
-    let books = ledger-from (freshMachine n pinOnly) (fresh-lengths n pinOnly) (fresh-formed n pinOnly some few) log room ok k h book b in
-    let none = fresh-balance n pinOnly book b in
+ledger s some few log room ok k h book b =
+    let books = ledger-from (freshOf s) (fresh-lengths s) (fresh-formed s some few) log room ok k h book b in
+    let none = fresh-balance s book b in
     omega (arith, books, none)
 
 -- At the end, of the machine that the run hands back.
@@ -58,14 +64,14 @@ run-end : (m : Machine) (log : List ℕ) (room : ℕ) → isOK (ran m log room .
 unfolding ran
 run-end m log room ok = rw ok
 
-pub ledger-end : (n : ℕ) (pinOnly : Bool) → 1 ≤ n → n ≤ cpuSlots → (log room : List ℕ)
-    → isOK (ran (freshMachine n pinOnly) log (length room) .code) ≡ true → (book : Book) → InBooks book
-    → balance (ran (freshMachine n pinOnly) log (length room) .value) book
-    + releases book n log (ranRoom (freshMachine n pinOnly) log room) (length log / 12)
-    ≡ acquires book n log (ranRoom (freshMachine n pinOnly) log room) (length log / 12)
-ledger-end n pinOnly some few log room ok book b =
-    rw (run-end (freshMachine n pinOnly) log (length room) ok) (ledger n pinOnly some few log room ok (length log / 12) (omega arith) book b)
+pub ledger-end : (s : Setup) → 1 ≤ s .n → s .n ≤ cpuSlots → (log room : List ℕ)
+    → isOK (ran (freshOf s) log (length room) .code) ≡ true → (book : Book) → InBooks book
+    → balance (ran (freshOf s) log (length room) .value) book
+    + releases book s log (ranRoom (freshOf s) log room) (length log / 12)
+    ≡ acquires book s log (ranRoom (freshOf s) log room) (length log / 12)
+ledger-end s some few log room ok book b =
+    rw (run-end (freshOf s) log (length room) ok) (ledger s some few log room ok (length log / 12) (omega arith) book b)
 
 -- And the machine is well-formed: hold is the sum of the depths of the locks whose word names the CPU, and record and word agree.
-pub prefix-formed : (n : ℕ) (pinOnly : Bool) → 1 ≤ n → n ≤ cpuSlots → (log : List ℕ) (k : ℕ) → wellFormed (stateAt (freshMachine n pinOnly) log k) ≡ true
-prefix-formed n pinOnly some few log k = states-keep (freshMachine n pinOnly) (fresh-lengths n pinOnly) log k (fresh-formed n pinOnly some few) .1
+pub prefix-formed : (s : Setup) → 1 ≤ s .n → s .n ≤ cpuSlots → (log : List ℕ) (k : ℕ) → wellFormed (stateAt (freshOf s) log k) ≡ true
+prefix-formed s some few log k = states-keep (freshOf s) (fresh-lengths s) log k (fresh-formed s some few) .1

@@ -11,9 +11,10 @@ use Rattle.error.specs.Answer.{Answer}
 use Rattle.machine.specs.declared.Machine.{Machine}
 use Rattle.wellformed.specs.WellFormed.{wellFormed}
 use Rattle.wellformed.proofs.Facts.{says}
-use Rattle.runner.specs.Cells.{machineStore}
-use Rattle.runner.specs.Step.{asked, next}
-use Rattle.runner.specs.Run.{recordAt, stateAt, answerAt, ran, ranRoom}
+use Rattle.operations.specs.Cells.{machineStore}
+use Rattle.operations.specs.Asked.{asked, next}
+use Rattle.operations.specs.Log.{recordAt, stateAt, answerAt}
+use Rattle.runner.specs.Run.{ran, ranRoom}
 use Rattle.kept.proofs.Lengths.{Lengths}
 use Rattle.kept.proofs.Laws.{states-keep}
 use Rattle.rearranged.proofs.Commute.{after-shape}
@@ -22,13 +23,13 @@ use Rattle.ledger.specs.Ledger.{Book, acceptedAt, acquires, releases, ba
 use Rattle.ledger.proofs.Answers.{bytes-tell}
 use Rattle.ledger.proofs.Records.{record-books}
 
--- The number of CPUs stays.
-states-n : (m : Machine) (log : List ℕ) (k : ℕ) → stateAt m log k .n ≡ m .n
+-- The setup stays.
+states-setup : (m : Machine) (log : List ℕ) (k : ℕ) → stateAt m log k .setup ≡ m .setup
 unfolding stateAt next
-states-n m log zero = refl
-states-n m log (suc k) =
-    ap (λ x. x .n) (after-shape machineStore (Answer ℕ) Shape shape machine-laws (asked (stateAt m log k) (recordAt log k)) (stateAt m log k))
-    ∙ states-n m log k
+states-setup m log zero = refl
+states-setup m log (suc k) =
+    ap (λ x. x .setup) (after-shape machineStore (Answer ℕ) Shape shape machine-laws (asked (stateAt m log k) (recordAt log k)) (stateAt m log k))
+    ∙ states-setup m log k
 
 -- The answer bytes tell which of the first `count` records were accepted.
 abbrev pub Tell : Machine → List ℕ → List ℕ → ℕ → Type 0
@@ -37,22 +38,22 @@ Tell m log answers count = (k : ℕ) → k < count → acceptedAt answers k ≡ 
 -- Where they do, the books are kept from record to record. This is so of a log of any length, also of one that is too long to run.
 pub records-books : (m : Machine) → Lengths m → wellFormed m ≡ true → (log answers : List ℕ) (count : ℕ) → Tell m log answers count
     → (k : ℕ) → k ≤ count → (book : Book) → InBooks book
-    → balance (stateAt m log k) book + releases book (m .n) log answers k ≡ balance m book + acquires book (m .n) log answers k
+    → balance (stateAt m log k) book + releases book (m .setup) log answers k ≡ balance m book + acquires book (m .setup) log answers k
 unfolding stateAt acquires releases
 records-books m s good log answers count tell zero h book b = refl
 records-books m s good log answers count tell (suc k) h book b =
-    let before : balance (stateAt m log k) book + releases book (m .n) log answers k ≡ balance m book + acquires book (m .n) log answers k =
+    let before : balance (stateAt m log k) book + releases book (m .setup) log answers k ≡ balance m book + acquires book (m .setup) log answers k =
     records-books m s good log answers count tell k (omega arith) book b in
     let kept = states-keep m s log k good in
     let one = record-books (stateAt m log k) (kept .0) (says (stateAt m log k) (kept .1)) (recordAt log k) book b in
-    let here = rw (states-n m log k, ← tell k (omega arith)) at one in
+    let here = rw (states-setup m log k, ← tell k (omega arith)) at one in
     omega (arith, before, here)
 
 -- From any well-formed machine that runs a log, after every prefix: what a book has then and its accepted releases are together what it had at
 -- the start and its accepted acquires.
 pub ledger-from : (m : Machine) → Lengths m → wellFormed m ≡ true → (log room : List ℕ) → isOK (ran m log (length room) .code) ≡ true
     → (k : ℕ) → k ≤ length log / 12 → (book : Book) → InBooks book
-    → balance (stateAt m log k) book + releases book (m .n) log (ranRoom m log room) k
-    ≡ balance m book + acquires book (m .n) log (ranRoom m log room) k
+    → balance (stateAt m log k) book + releases book (m .setup) log (ranRoom m log room) k
+    ≡ balance m book + acquires book (m .setup) log (ranRoom m log room) k
 ledger-from m s good log room ok k h book b =
     records-books m s good log (ranRoom m log room) (length log / 12) (bytes-tell m log room ok) k h book b

@@ -18,32 +18,22 @@ use Rattle.wellformed.proofs.Facts.{Runs, WellFormed}
 use Rattle.kept.proofs.Walk.{Ways, Told, walked}
 use Rattle.kept.proofs.Depths.{hold-most}
 use Rattle.kept.proofs.Locked.{hold-least, lock-valid}
-
--- 1 for an operation that acquires, and 1 for the one that releases.
-abbrev pub up : Operation → ℕ
-up Operation.Acquire = 1
-up Operation.Nested = 1
-up Operation.Release = 0
-
-abbrev pub down : Operation → ℕ
-down Operation.Acquire = 0
-down Operation.Nested = 0
-down Operation.Release = 1
+use Rattle.ledger.specs.Ledger.{acquire, kindOf, up, down}
 
 -- The lock's depth and the CPU's hold go one up with an acquire, and one down with a release.
 pub record Moves (m : Machine) (op : Operation) (c l : ℕ) (v : Lock) : Type 0 where
-  pub depth : v .state .«nest_count» + down op ≡ lockAt m l .state .«nest_count» + up op
-  pub hold : moved op (cpuAt m c .hold) + down op ≡ cpuAt m c .hold + up op
+  pub depth : v .state .«nest_count» + down (kindOf op) ≡ lockAt m l .state .«nest_count» + up (kindOf op)
+  pub hold : moved op (cpuAt m c .hold) + down (kindOf op) ≡ cpuAt m c .hold + up (kindOf op)
 
-module _ (m : Machine) (w : WellFormed m) (c l t : ℕ) (hc : c < m .n) (hl : l < lockCount) (runs : Runs m c t) where
+module _ (m : Machine) (w : WellFormed m) (c l t : ℕ) (hc : c < m .setup .n) (hl : l < lockCount) (runs : Runs m c t) where
   more : oneMore (cpuAt m c .hold) ≡ cpuAt m c .hold + 1
   more = let few = w .few in rw (lt-ltb (cpuAt m c .hold) 0xffff_ffff (hold-most m w c (omega arith)))
 
-  taken : (op : Operation) → up op ≡ 1 → down op ≡ 0 → moved op (cpuAt m c .hold) ≡ oneMore (cpuAt m c .hold) → lockAt m l .state ≡ freeRecord → (word : ℕ)
-      → Moves m op c l (record { state = takenBy t; word = word })
-  taken op one none moves e word =
+  taken : (op : Operation) → kindOf op ≡ acquire → moved op (cpuAt m c .hold) ≡ oneMore (cpuAt m c .hold) → lockAt m l .state ≡ freeRecord
+      → (word : ℕ) → Moves m op c l (record { state = takenBy t; word = word })
+  taken op kind moves e word =
       let depth : lockAt m l .state .«nest_count» ≡ 0 = ap (λ (x : SpinlockState). x .«nest_count») e in
-      record { depth = omega arith; hold = rw (moves, more, one, none) (omega arith) }
+      record { depth = rw kind (omega arith); hold = rw (moves, more, kind) (omega arith) }
 
   lowered : HeldBy (lockAt m l .state) t → (word : ℕ) → Moves m Operation.Release c l (record { state = shallower (lockAt m l .state); word = word })
   lowered held word =
@@ -57,16 +47,16 @@ module _ (m : Machine) (w : WellFormed m) (c l t : ℕ) (hc : c < m .n) (hl : l 
         hold = omega arith;
       }
 
-  ways : Ways c t (lockAt m l) (λ op. Moves m op c l)
+  ways : Ways (m .setup) c t (lockAt m l) (λ op. Moves m op c l)
   ways =
       record {
-        acquired = λ e. taken Operation.Acquire refl refl refl e _;
-        nested-first = λ e. taken Operation.Nested refl refl refl e _;
+        acquired = λ e. taken Operation.Acquire refl refl e _;
+        nested-first = λ e. taken Operation.Nested refl refl e _;
         nested-more = λ _ _. record { depth = omega arith; hold = rw more (omega arith) };
         released = λ held. lowered held _;
       }
 
-pub lock-told : (m : Machine) → WellFormed m → (c l : ℕ) → c < m .n → l < lockCount → (op : Operation)
-    → Told (Moves m op c l) (lockOp op c (cpuAt m c .run) (lockAt m l))
+pub lock-told : (m : Machine) → WellFormed m → (c l : ℕ) → c < m .setup .n → l < lockCount → (op : Operation)
+    → Told (Moves m op c l) (lockOp (m .setup) op c (cpuAt m c .run) (lockAt m l))
 lock-told m w c l hc hl op =
-    walked c (cpuAt m c .run) (lockAt m l) (lock-valid m w l hl) (λ op. Moves m op c l) (λ t runs. ways m w c l t hc hl runs) op
+    walked (m .setup) c (cpuAt m c .run) (lockAt m l) (lock-valid m w l hl) (λ op. Moves m op c l) (λ t runs. ways m w c l t hc hl runs) op

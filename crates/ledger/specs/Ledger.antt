@@ -1,41 +1,51 @@
--- Demand 3, the ledger: what is counted. A count is a function of n, of the log's bytes and of the answer bytes; no machine is in it.
+-- Demand 3, the ledger: what is counted. A count is a function of the setup, of the log's bytes and of the answer bytes; no machine is in it.
 use mathlib.Core.Bool.{Bool, cond}
 use mathlib.Core.List.{List}
 use Prim.Native.Nat.{ℕ, zero, suc, _+_, _<_}
 use lib.Dec.{eqb}
 use Rattle.error.specs.Codes.{isOK}
-use Rattle.machine.specs.State.{cpuSlots, lockCount, cpuAt, lockAt}
+use Rattle.answers.specs.Answer.{decodeAnswer}
+use Rattle.spinlock.specs.declared.Operation.{Operation as LockOperation}
+use Rattle.machine.specs.State.{cpuSlots, lockCount, cpuAt, lockAt, freshThreads, freshMachine}
+use Rattle.machine.specs.declared.Setup.{Setup}
 use Rattle.machine.specs.declared.Machine.{Machine}
-use Rattle.record.specs.Answer.{decodeAnswer}
 use Rattle.record.specs.Record.{requestOf}
+use Rattle.record.specs.declared.Operation.{Operation}
 use Rattle.record.specs.declared.Request.{Request}
-use Rattle.runner.specs.Run.{recordAt}
+use Rattle.operations.specs.Log.{recordAt}
 use Rattle.rearranged.specs.Rearranged.{place}
 
--- What a record asks of a lock: an acquire (4 and 5) or a release (6), by a CPU, of a lock; or something else.
+-- An acquire (4 and 5) or a release (6).
+pub data Kind : Type 0 where
+  acquire release : Kind
+
+-- Which of the two an operation on a lock is: 5 counts as an acquire.
+abbrev pub kindOf : LockOperation → Kind
+kindOf LockOperation.Acquire = acquire
+kindOf LockOperation.Nested = acquire
+kindOf LockOperation.Release = release
+
+-- What a record asks of a lock: an acquire or a release, by a CPU, of a lock; or something else.
 pub data Call : Type 0 where
-  acquire release : (cpu lock : ℕ) → Call
+  called : (kind : Kind) (cpu lock : ℕ) → Call
   other : Call
+
+-- What an operation asks of a lock: those on a lock, and no other.
+abbrev pub callBy : Operation → ℕ → ℕ → Call
+callBy Operation.Malformed c l = other
+callBy (Operation.OnCpu op) c l = other
+callBy (Operation.OnLock op) c l = called (kindOf op) c l
+callBy (Operation.OnThread op) c l = other
+callBy Operation.Ipi c l = other
+callBy Operation.Owner c l = other
 
 -- What a request asks of a lock.
 abbrev pub callOf : Request → Call
-callOf Request.Malformed = other
-callOf (Request.Up c) = other
-callOf (Request.Down c) = other
-callOf (Request.Put c t) = other
-callOf (Request.Take c t) = other
-callOf (Request.Acquire c l) = acquire (c .0) (l .0)
-callOf (Request.Nested c l) = acquire (c .0) (l .0)
-callOf (Request.Release c l) = release (c .0) (l .0)
-callOf (Request.Mask t enable disable) = other
-callOf (Request.Pin t c) = other
-callOf (Request.Priority t a) = other
-callOf (Request.Ipi c t) = other
-callOf (Request.Owner l) = other
+callOf r = callBy (r .operation) (r .cpu .0) (r .lock .0)
 
--- What record k of a log asks of a lock, where there are n CPUs.
-abbrev pub callAt : ℕ → List ℕ → ℕ → Call
-callAt n log k = callOf (requestOf n (recordAt log k))
+-- What record k of a log asks of a lock, on a machine of this setup.
+abbrev pub callAt : Setup → List ℕ → ℕ → Call
+callAt s log k = callOf (requestOf s (recordAt log k))
 
 -- Record k was accepted: the eight bytes at its place in the answer buffer have the code OK.
 abbrev pub acceptedAt : List ℕ → ℕ → Bool
@@ -50,31 +60,38 @@ abbrev pub mine : Book → ℕ → ℕ → Bool
 mine (ofLock l) cpu lock = eqb lock l
 mine (ofCpu c) cpu lock = eqb cpu c
 
+-- 1 for an acquire, and 1 for a release.
+abbrev pub up : Kind → ℕ
+up acquire = 1
+up release = 0
+
+abbrev pub down : Kind → ℕ
+down acquire = 0
+down release = 1
+
 -- 1 for an acquire that goes into this book.
 abbrev pub acquired : Book → Call → ℕ
-acquired book (acquire cpu lock) = cond (mine book cpu lock) 1 0
-acquired book (release cpu lock) = 0
+acquired book (called kind cpu lock) = cond (mine book cpu lock) (up kind) 0
 acquired book other = 0
 
 -- 1 for a release that goes into this book.
 abbrev pub released : Book → Call → ℕ
-released book (acquire cpu lock) = 0
-released book (release cpu lock) = cond (mine book cpu lock) 1 0
+released book (called kind cpu lock) = cond (mine book cpu lock) (down kind) 0
 released book other = 0
 
 -- What a record counts for: nothing if it was refused.
 abbrev pub counted : Bool → ℕ → ℕ
 counted accepted count = cond accepted count 0
 
--- Accepted acquires among the first k records: of a book, n, the log's bytes and the answer bytes.
-unfoldable pub acquires : Book → ℕ → List ℕ → List ℕ → ℕ → ℕ
-acquires book n log answers zero = 0
-acquires book n log answers (suc k) = acquires book n log answers k + counted (acceptedAt answers k) (acquired book (callAt n log k))
+-- Accepted acquires among the first k records: of a book, the setup, the log's bytes and the answer bytes.
+unfoldable pub acquires : Book → Setup → List ℕ → List ℕ → ℕ → ℕ
+acquires book s log answers zero = 0
+acquires book s log answers (suc k) = acquires book s log answers k + counted (acceptedAt answers k) (acquired book (callAt s log k))
 
 -- Accepted releases among the first k records.
-unfoldable pub releases : Book → ℕ → List ℕ → List ℕ → ℕ → ℕ
-releases book n log answers zero = 0
-releases book n log answers (suc k) = releases book n log answers k + counted (acceptedAt answers k) (released book (callAt n log k))
+unfoldable pub releases : Book → Setup → List ℕ → List ℕ → ℕ → ℕ
+releases book s log answers zero = 0
+releases book s log answers (suc k) = releases book s log answers k + counted (acceptedAt answers k) (released book (callAt s log k))
 
 -- What a book's owner has: a lock its depth, a CPU its hold.
 abbrev pub balance : Machine → Book → ℕ
@@ -85,3 +102,7 @@ balance m (ofCpu c) = cpuAt m c .hold
 abbrev pub InBooks : Book → Type 0
 InBooks (ofLock l) = l < lockCount
 InBooks (ofCpu c) = c < cpuSlots
+
+-- The fresh machine of a setup.
+abbrev pub freshOf : Setup → Machine
+freshOf s = freshMachine s (freshThreads s)

@@ -6,6 +6,7 @@ ghost use mathlib.Core.Path.{_≡_};
 ghost use lib.ListN.{length};
 ghost use Rattle.error.specs.Codes.{numberOf};
 ghost use Rattle.error.specs.Answer.{answer};
+ghost use Rattle.words.specs.HighFirst.{highFirst};
 ghost use Rattle.lent_room.specs.Room.{
   wordBytes,
   maskBytes,
@@ -16,26 +17,26 @@ ghost use Rattle.lent_room.specs.Room.{
 };
 use error::Code;
 
+// The low bytes of a value, as many as asked for.
+fn put_value(out: &mut [u8], code: Code, count: usize, value: u64) -> i32
+    ensures code { λ r. ⌜ r ≡ callCode (answer (numberOf code) (highFirst «count» «value»)) (length (now (out .entry))) ⌝ }
+    ensures room { λ _. ⌜ now (out .exit) ≡ callRoom (answer (numberOf code) (highFirst «count» «value»)) (now (out .entry)) ⌝ }
+{
+    if !error::is_ok(code) {
+        return error::number(code);
+    }
+    if !high_first::put(out, 0, count, value) {
+        return error::ENOMEM;
+    }
+    error::OK
+}
+
 // An owner word.
 pub fn put_word(out: &mut [u8], code: Code, word: u64) -> i32
     ensures code { λ r. ⌜ r ≡ callCode (answer (numberOf code) (wordBytes word)) (length (now (out .entry))) ⌝ }
     ensures room { λ _. ⌜ now (out .exit) ≡ callRoom (answer (numberOf code) (wordBytes word)) (now (out .entry)) ⌝ }
 {
-    if !error::is_ok(code) {
-        return error::number(code);
-    }
-    if out.len() < 8 {
-        return error::ENOMEM;
-    }
-    out[0] = (word / 0x100_0000_0000_0000 % 256) as u8;
-    out[1] = (word / 0x1_0000_0000_0000 % 256) as u8;
-    out[2] = (word / 0x100_0000_0000 % 256) as u8;
-    out[3] = (word / 0x1_0000_0000 % 256) as u8;
-    out[4] = (word / 0x100_0000 % 256) as u8;
-    out[5] = (word / 0x1_0000 % 256) as u8;
-    out[6] = (word / 0x100 % 256) as u8;
-    out[7] = (word / 0x1 % 256) as u8;
-    error::OK
+    put_value(out, code, 8, word)
 }
 
 // A mask.
@@ -43,17 +44,7 @@ pub fn put_mask(out: &mut [u8], code: Code, mask: u32) -> i32
     ensures code { λ r. ⌜ r ≡ callCode (answer (numberOf code) (maskBytes mask)) (length (now (out .entry))) ⌝ }
     ensures room { λ _. ⌜ now (out .exit) ≡ callRoom (answer (numberOf code) (maskBytes mask)) (now (out .entry)) ⌝ }
 {
-    if !error::is_ok(code) {
-        return error::number(code);
-    }
-    if out.len() < 4 {
-        return error::ENOMEM;
-    }
-    out[0] = (mask / 0x100_0000 % 256) as u8;
-    out[1] = (mask / 0x1_0000 % 256) as u8;
-    out[2] = (mask / 0x100 % 256) as u8;
-    out[3] = (mask / 0x1 % 256) as u8;
-    error::OK
+    put_value(out, code, 4, mask as u64)
 }
 
 // A yes or no.
@@ -61,17 +52,10 @@ pub fn put_yes_no(out: &mut [u8], code: Code, holds: bool) -> i32
     ensures code { λ r. ⌜ r ≡ callCode (answer (numberOf code) (yesNoBytes holds)) (length (now (out .entry))) ⌝ }
     ensures room { λ _. ⌜ now (out .exit) ≡ callRoom (answer (numberOf code) (yesNoBytes holds)) (now (out .entry)) ⌝ }
 {
-    if !error::is_ok(code) {
-        return error::number(code);
-    }
-    if out.len() < 1 {
-        return error::ENOMEM;
-    }
-    out[0] = holds as u8;
-    error::OK
+    put_value(out, code, 1, holds as u64)
 }
 
-// A thread and its CPU.
+// A thread and its CPU. The CPU stands last and is written first: where it finds room, so does the thread.
 pub fn put_holder(out: &mut [u8], code: Code, thread: u64, cpu: u32) -> i32
     ensures code { λ r. ⌜ r ≡ callCode (answer (numberOf code) (holderBytes thread cpu)) (length (now (out .entry))) ⌝ }
     ensures room { λ _. ⌜ now (out .exit) ≡ callRoom (answer (numberOf code) (holderBytes thread cpu)) (now (out .entry)) ⌝ }
@@ -79,17 +63,8 @@ pub fn put_holder(out: &mut [u8], code: Code, thread: u64, cpu: u32) -> i32
     if !error::is_ok(code) {
         return error::number(code);
     }
-    if out.len() < 9 {
+    if !high_first::put(out, 8, 1, cpu as u64) {
         return error::ENOMEM;
     }
-    out[0] = (thread / 0x100_0000_0000_0000 % 256) as u8;
-    out[1] = (thread / 0x1_0000_0000_0000 % 256) as u8;
-    out[2] = (thread / 0x100_0000_0000 % 256) as u8;
-    out[3] = (thread / 0x1_0000_0000 % 256) as u8;
-    out[4] = (thread / 0x100_0000 % 256) as u8;
-    out[5] = (thread / 0x1_0000 % 256) as u8;
-    out[6] = (thread / 0x100 % 256) as u8;
-    out[7] = (thread / 0x1 % 256) as u8;
-    out[8] = (cpu / 0x1 % 256) as u8;
-    error::OK
+    put_value(out, code, 8, thread)
 }

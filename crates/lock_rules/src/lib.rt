@@ -5,33 +5,36 @@
 // hands every cell back as it was.
 ghost use mathlib.Core.Path.{_≡_};
 ghost use Prim.Native.Nat.{_-_};
-ghost use Rattle.spinlock.specs.Lock.{changedSays, held, owns, operate as Lock·operate};
-ghost use Rattle.order.specs.Outcome.{appliedTo};
+ghost use Rattle.error.specs.Codes.{EINVAL};
+ghost use Rattle.error.specs.Answer.{answer};
+ghost use Rattle.spinlock.specs.Lock.{changedSays, held};
+ghost use Rattle.machine.specs.State.{hasCpu, threadWord};
 ghost use Rattle.rules.specs.Rules.{
   lockSays,
-  valueSays,
+  answeredSays,
+  ranged,
   elsewhere as Rules·elsewhere,
   ruled as Rules·ruled,
   wordAfter,
   settled as lockSettled,
-  lockOp,
+  withLock,
+  onLock,
   oneMore,
   moved as Rules·moved,
-  holdAfter,
   owner as Rules·owner,
 };
 use error::Code;
+use machine::Cpu;
 use machine::CpuId;
 use machine::Current;
 use machine::Lock;
-use machine::Run;
+use machine::Setup;
 use machine::ThreadId;
+use rules::Answered;
 use rules::LockOut;
-use rules::ValueOut;
 use spinlock::Changed;
 use spinlock::Operation;
 use spinlock::Owner;
-use spinlock::Situation;
 use spinlock::SpinlockState;
 
 fn has_owner(owner: Owner) -> bool
@@ -43,52 +46,32 @@ fn has_owner(owner: Owner) -> bool
     }
 }
 
-fn is_owner(owner: Owner, t: u32) -> bool
-    ensures { λ r. ⌜ r ≡ owns owner t ⌝ }
+// The thread word of a thread: the address that stands for it in owner words.
+fn thread_word(setup: Setup, t: ThreadId) -> u64
+    ensures { λ r. ⌜ r ≡ threadWord setup (t .0) ⌝ }
 {
-    match owner {
-        Owner::None => false,
-        Owner::Thread(s) => s == t,
-    }
+    setup.tags() * (t.0 as u64 + 1)
 }
 
-// Whether the thread owns the lock by its record, but on another CPU by its word.
-fn elsewhere(c: CpuId, t: ThreadId, lock: Lock) -> bool
-    ensures { λ r. ⌜ r ≡ Rules·elsewhere (c .0) (t .0) lock ⌝ }
+// Whether the lock's word is another than this thread's on this CPU, so that the thread is not the owner here.
+fn elsewhere(setup: Setup, c: CpuId, t: ThreadId, lock: Lock) -> bool
+    ensures { λ r. ⌜ r ≡ Rules·elsewhere setup (c .0) (t .0) lock ⌝ }
 {
-    let state = lock.state;
-    let owner = state.owner;
-    let valid = spinlock_validate::spin_unlock_valid(lock.word, c.0, machine::thread_word(t));
-    is_owner(owner, t.0) & !valid.yes
-}
-
-fn operate(operation: Operation, state: SpinlockState, t: u32) -> Changed
-    ensures { λ r. ⌜ changedSays r ≡ Lock·operate operation state t ⌝ }
-{
-    match operation {
-        Operation::Acquire => state.acquire(t),
-        Operation::Nested => state.acquire_nested(t),
-        Operation::Release => state.release(t),
-    }
+    let valid = spinlock_validate::spin_unlock_valid(lock.word, c.0, thread_word(setup, t));
+    !valid.yes
 }
 
 // The lock's rule for a thread on a CPU.
-fn ruled(operation: Operation, c: CpuId, t: ThreadId, lock: Lock) -> Changed
-    ensures { λ r. ⌜ changedSays r ≡ Rules·ruled operation (c .0) (t .0) lock ⌝ }
+fn ruled(setup: Setup, operation: Operation, c: CpuId, t: ThreadId, lock: Lock) -> Changed
+    ensures { λ r. ⌜ changedSays r ≡ Rules·ruled setup operation (c .0) (t .0) lock ⌝ }
 {
     let state = lock.state;
-    if elsewhere(c, t, lock) {
-        return Changed {
-            code: spinlock::code_of(operation, Situation::Foreign),
-            state,
-        };
-    }
-    operate(operation, state, t.0)
+    state.operate(operation, t.0, elsewhere(setup, c, t, lock))
 }
 
 // The word of a lock after an accepted operation that left this record.
-fn word_after(c: CpuId, t: ThreadId, lock: Lock, next: SpinlockState) -> u64
-    ensures { λ r. ⌜ r ≡ wordAfter (c .0) (t .0) lock next ⌝ }
+fn word_after(setup: Setup, c: CpuId, t: ThreadId, lock: Lock, next: SpinlockState) -> u64
+    ensures { λ r. ⌜ r ≡ wordAfter setup (c .0) (t .0) lock next ⌝ }
 {
     let owner = next.owner;
     if !has_owner(owner) {
@@ -99,7 +82,7 @@ fn word_after(c: CpuId, t: ThreadId, lock: Lock, next: SpinlockState) -> u64
     if has_owner(before) {
         return lock.word;
     }
-    let made = spinlock_validate::spin_lock_compute_owner(c.0, machine::thread_word(t));
+    let made = spinlock_validate::spin_lock_compute_owner(c.0, thread_word(setup, t));
     made.word
 }
 
@@ -126,56 +109,96 @@ fn one_less(hold: u32) -> u32
     if 0 < hold { hold - 1 } else { 0 }
 }
 
-// The cells after the lock's rule: a refusal leaves them.
-fn settled(operation: Operation, c: CpuId, t: ThreadId, lock: Lock, hold: u32) -> LockOut
-    ensures { λ r. ⌜ (lockSays r ≡ appliedTo lock (lockSettled (c .0) (t .0) lock (Rules·ruled operation (c .0) (t .0) lock)))
-        × (r .hold ≡ holdAfter operation hold (lockSettled (c .0) (t .0) lock (Rules·ruled operation (c .0) (t .0) lock))) ⌝ }
+// The CPU and the lock after the lock's rule: a refusal leaves them.
+fn settled(
+    setup: Setup,
+    operation: Operation,
+    c: CpuId,
+    t: ThreadId,
+    cpu: Cpu,
+    lock: Lock,
+) -> LockOut
+    ensures { λ r. ⌜ lockSays r ≡ withLock operation cpu lock (lockSettled setup (c .0) (t .0) lock (Rules·ruled setup operation (c .0) (t .0) lock)) ⌝ }
 {
-    let a = ruled(operation, c, t, lock);
+    let a = ruled(setup, operation, c, t, lock);
     let code = a.code;
     let next = a.state;
     if !error::is_ok(code) {
         return LockOut {
-            code,
-            value: next.nest_count,
+            answer: Answered {
+                code,
+                value: next.nest_count,
+            },
+            cpu,
             lock,
-            hold,
         };
     }
+    let run = cpu.run;
     LockOut {
-        code: Code::Ok,
-        value: next.nest_count,
+        answer: Answered {
+            code: Code::Ok,
+            value: next.nest_count,
+        },
+        cpu: Cpu {
+            run,
+            hold: moved(operation, cpu.hold),
+        },
         lock: Lock {
             state: next,
-            word: word_after(c, t, lock, next),
+            word: word_after(setup, c, t, lock, next),
         },
-        hold: moved(operation, hold),
     }
 }
 
-// 4, 5 and 6: acquire, nested acquire and release of a lock by the CPU's current thread.
-pub fn lock_op(operation: Operation, c: CpuId, run: Run, lock: Lock, hold: u32) -> LockOut
-    ensures { λ r. ⌜ (lockSays r ≡ appliedTo lock (lockOp operation (c .0) run lock)) × (r .hold ≡ holdAfter operation hold (lockOp operation (c .0) run lock)) ⌝ }
+// With no thread on the CPU.
+fn no_thread(cpu: Cpu, lock: Lock) -> LockOut
+    ensures { λ r. ⌜ lockSays r ≡ (answer EINVAL (lock .state .«nest_count»), (cpu, lock)) ⌝ }
 {
     let state = lock.state;
-    let current = run.current;
-    match current {
-        Current::None => LockOut {
+    LockOut {
+        answer: Answered {
             code: Code::Einval,
             value: state.nest_count,
-            lock,
-            hold,
         },
-        Current::Thread(t) => settled(operation, c, t, lock, hold),
+        cpu,
+        lock,
+    }
+}
+
+// 4, 5 and 6, on a machine of this setup: the CPU and the lock after its current thread's acquire, nested acquire or release.
+pub fn on_lock(setup: Setup, operation: Operation, c: CpuId, cpu: Cpu, lock: Lock) -> LockOut
+    ensures { λ r. ⌜ lockSays r ≡ ranged (hasCpu setup (c .0)) (cpu, lock) (onLock setup operation (c .0) cpu lock) ⌝ }
+{
+    if !setup.has_cpu(c) {
+        return LockOut {
+            answer: Answered {
+                code: Code::Einval,
+                value: 0,
+            },
+            cpu,
+            lock,
+        };
+    }
+    let run = cpu.run;
+    let current = run.current;
+    match current {
+        Current::None => no_thread(cpu, lock),
+        Current::Thread(t) => {
+            if t.exists() {
+                settled(setup, operation, c, t, cpu, lock)
+            } else {
+                no_thread(cpu, lock)
+            }
+        }
     }
 }
 
 // 11: the owner word of a lock.
-pub fn owner(lock: Lock) -> ValueOut
-    ensures { λ r. ⌜ valueSays r ≡ Rules·owner lock ⌝ }
+pub fn owner(lock: Lock) -> Answered
+    ensures { λ r. ⌜ answeredSays r ≡ Rules·owner lock ⌝ }
 {
     let code = Code::Ok;
-    ValueOut {
+    Answered {
         code,
         value: (lock.word % 0x1_0000_0000) as u32,
     }

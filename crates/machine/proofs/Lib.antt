@@ -1,2 +1,3 @@
 pub mod OneResult
 pub mod CurrentThread
+pub mod Priority

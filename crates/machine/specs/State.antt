@@ -1,8 +1,10 @@
 -- 01, "The machine": n CPUs, 32 threads, and 128 locks, all free at the start, in one record.
-use Prim.Native.Nat.{ℕ, _+_, _*_, _/_, _%_}
+use Prim.Native.Nat.{ℕ, _+_, _*_, _/_, _%_, _^_}
 use mathlib.Core.Bool.{Bool, true, false, _&&_, cond}
-use lib.Dec.{eqb, leb}
-use lib.IntN.{pos}
+use lib.Dec.{eqb, leb, ltb}
+use lib.IntN.{ℤ, pos, negℤ}
+use lib.Signed.{leZ}
+use mathlib.Core.List.{List}
 use lib.ListN.{getD, replicate}
 use Rattle.error.specs.Codes.{OK, EINVAL, numberOf}
 use Rattle.error.specs.Answer.{Answer, answer}
@@ -13,6 +15,7 @@ use Rattle.machine.specs.declared.Run.{Run}
 use Rattle.machine.specs.declared.Cpu.{Cpu}
 use Rattle.machine.specs.declared.Thread.{Thread}
 use Rattle.machine.specs.declared.Lock.{Lock}
+use Rattle.machine.specs.declared.Setup.{Setup}
 use Rattle.machine.specs.declared.Machine.{Machine}
 use Rattle.machine.specs.declared.Made.{Made}
 
@@ -30,9 +33,29 @@ threadCount = 32
 abbrev pub lockCount : ℕ
 lockCount = 128
 
+-- n is 1 to 4.
+abbrev pub setupOk : Setup → Bool
+setupOk k = leb 1 (k .n) && leb (k .n) cpuSlots
+
+-- A machine of this setup has CPU c.
+abbrev pub hasCpu : Setup → ℕ → Bool
+hasCpu k c = setupOk k && ltb c (k .n)
+
+-- There is a thread t.
+abbrev pub isThread : ℕ → Bool
+isThread t = ltb t threadCount
+
+-- Thread priorities lie in -128..127.
+unfoldable pub isPriority : ℤ → Bool
+isPriority p = leZ (negℤ (pos 128)) p && leZ p (pos 127)
+
+-- How many bits of an owner word are the CPU's number.
+abbrev pub tagBits : Setup → ℕ
+tagBits k = 2
+
 -- Thread t has thread word 4(t+1).
-abbrev pub threadWord : ℕ → ℕ
-threadWord t = 4 * (t + 1)
+abbrev pub threadWord : Setup → ℕ → ℕ
+threadWord k t = 2 ^ tagBits k * (t + 1)
 
 -- Thread t is the current one.
 abbrev pub isCurrent : Current → ℕ → Bool
@@ -57,23 +80,37 @@ freshThread pinOnly = record { mask = threadMask pinOnly; priority = pos 0; plac
 abbrev pub freeLock : Lock
 freeLock = record { state = freeRecord; word = 0 }
 
-unfoldable pub freshMachine : ℕ → Bool → Machine
-freshMachine n pinOnly =
+-- The threads of a fresh machine.
+abbrev pub freshThreads : Setup → List Thread
+freshThreads k = replicate threadCount (freshThread (k .«pin_only»))
+
+-- A machine at its start, with these threads.
+unfoldable pub freshMachine : Setup → List Thread → Machine
+freshMachine k threads =
     record {
-      n = n;
-      «pin_only» = pinOnly;
+      setup = k;
       cpus = replicate cpuSlots freshCpu;
-      threads = replicate threadCount (freshThread pinOnly);
+      threads = threads;
       locks = replicate lockCount freeLock;
     }
 
--- n is 1 to 4. A refused call that would make a machine gives the fresh one of n 1, all flags off.
-unfoldable pub fresh : ℕ → Bool → Answer Machine
-fresh n pinOnly = cond (leb 1 n && leb n cpuSlots) (answer OK (freshMachine n pinOnly)) (answer EINVAL (freshMachine 1 false))
+-- A refused call that would make a machine gives the fresh one of n 1, all flags off.
+abbrev pub leastSetup : Setup
+leastSetup = record { n = 1; «pin_only» = false }
+
+unfoldable pub notMade : Answer Machine
+notMade = answer EINVAL (freshMachine leastSetup (freshThreads leastSetup))
+
+-- n is 1 to 4, else EINVAL.
+unfoldable pub fresh : Setup → Answer Machine
+fresh k = cond (setupOk k) (answer OK (freshMachine k (freshThreads k))) notMade
 
 -- A setup byte: n 4 bits, pin-only 1, zero 3.
+abbrev pub setupOf : ℕ → Setup
+setupOf byte = record { n = byte / 16; «pin_only» = eqb (byte / 8 % 2) 1 }
+
 unfoldable pub setup : ℕ → Answer Machine
-setup byte = cond (eqb (byte % 8) 0) (fresh (byte / 16) (eqb (byte / 8 % 2) 1)) (answer EINVAL (freshMachine 1 false))
+setup byte = cond (eqb (byte % 8) 0) (fresh (setupOf byte)) notMade
 
 -- What stands past the end of an array: all zero.
 abbrev pub noCpu : Cpu

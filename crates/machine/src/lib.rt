@@ -1,27 +1,93 @@
 // The machine: n CPUs, 32 threads and 128 locks in one record, by value, with the cells that the operations of a log read and write.
 //
 // New here: upstream has the single rules and no machine. CPU, thread and lock numbers are kinds of their own, so that a lock's number
-// cannot index a CPU or a thread.
+// cannot index a CPU or a thread. What is fixed at start is one value, the setup; the width of an owner word's tag is a function of it.
 ghost use mathlib.Core.Path.{_≡_};
-ghost use Rattle.machine.specs.State.{threadMask, threadWord as State·threadWord, freshMachine, madeSays, fresh as State·fresh, setup as State·setup};
+ghost use Prim.Native.Nat.{_^_};
+ghost use Rattle.machine.specs.State.{
+  setupOk,
+  hasCpu,
+  isThread,
+  isPriority,
+  tagBits,
+  threadMask,
+  freshMachine,
+  freshThreads,
+  madeSays,
+  fresh as State·fresh,
+  notMade,
+  setup as State·setup,
+};
 use error::Code;
 use spinlock::SpinlockState;
 
 // How many CPU slots, threads and locks a machine has.
-pub const CPU_SLOTS: u32 = 4;
+pub const CPU_SLOTS: usize = 4;
 
-pub const THREADS: u32 = 32;
+pub const THREADS: usize = 32;
 
-pub const LOCKS: u32 = 128;
+pub const LOCKS: usize = 128;
 
-// The priority of a CPU with no thread.
+// How many CPUs the tag of an owner word tells apart.
+const TAG_CPUS: u64 = 4;
+
+// The priority of a CPU with no thread, and the least and the greatest of a thread.
 pub const IDLE_PRIORITY: i32 = 128;
+
+const LEAST_PRIORITY: i32 = -128;
+
+const GREATEST_PRIORITY: i32 = 127;
 
 pub struct CpuId(pub u32);
 
 pub struct ThreadId(pub u32);
 
 pub struct LockId(pub u32);
+
+impl ThreadId {
+    // Whether there is such a thread.
+    pub fn exists(self) -> bool
+        ensures { λ r. ⌜ r ≡ isThread (self .0) ⌝ }
+    {
+        self.0 < THREADS as u32
+    }
+}
+
+// Whether a thread can have this priority: it lies in -128..127.
+pub fn is_priority(priority: i32) -> bool
+    ensures { λ r. ⌜ r ≡ isPriority priority ⌝ }
+{
+    (LEAST_PRIORITY <= priority) & (priority <= GREATEST_PRIORITY)
+}
+
+// What is fixed at start: how many CPUs there are, and whether a mask has one bit only.
+pub struct Setup {
+    pub n: u32,
+    pub pin_only: bool,
+}
+
+impl Setup {
+    // Whether a machine can have this setup: n is 1 to 4.
+    pub fn is_ok(self) -> bool
+        ensures { λ r. ⌜ r ≡ setupOk self ⌝ }
+    {
+        (1 <= self.n) & (self.n <= CPU_SLOTS as u32)
+    }
+
+    // Whether a machine of this setup has the CPU.
+    pub fn has_cpu(self, c: CpuId) -> bool
+        ensures { λ r. ⌜ r ≡ hasCpu self (c .0) ⌝ }
+    {
+        self.is_ok() & (c.0 < self.n)
+    }
+
+    // How many CPUs its owner words tell apart.
+    pub fn tags(self) -> u64
+        ensures { λ r. ⌜ r ≡ 2 ^ tagBits self ⌝ }
+    {
+        TAG_CPUS
+    }
+}
 
 // The thread that a CPU runs.
 pub enum Current {
@@ -62,11 +128,10 @@ pub struct Lock {
 }
 
 pub struct Machine {
-    pub n: u32,
-    pub pin_only: bool,
-    pub cpus: [Cpu; 4],
-    pub threads: [Thread; 32],
-    pub locks: [Lock; 128],
+    pub setup: Setup,
+    pub cpus: [Cpu; CPU_SLOTS],
+    pub threads: [Thread; THREADS],
+    pub locks: [Lock; LOCKS],
 }
 
 // A machine that was made, or the fresh one of n 1 with the code of the refusal.
@@ -83,8 +148,8 @@ fn fresh_mask(pin_only: bool) -> u32
 }
 
 // All CPUs down, no thread placed, every lock free.
-fn fresh_machine(n: u32, pin_only: bool) -> Machine
-    ensures { λ r. ⌜ r ≡ freshMachine n «pin_only» ⌝ }
+fn fresh_machine(setup: Setup) -> Machine
+    ensures { λ r. ⌜ r ≡ freshMachine setup (freshThreads setup) ⌝ }
 {
     let run = Run {
         active: false,
@@ -92,64 +157,62 @@ fn fresh_machine(n: u32, pin_only: bool) -> Machine
         priority: IDLE_PRIORITY,
     };
     let cpu = Cpu { run, hold: 0 };
-    let cpus = [cpu; 4];
-    let mask = fresh_mask(pin_only);
+    let cpus = [cpu; CPU_SLOTS];
+    let mask = fresh_mask(setup.pin_only);
     let thread = Thread {
         mask,
         priority: 0,
         place: Place::Nowhere,
     };
-    let threads = [thread; 32];
+    let threads = [thread; THREADS];
     let state = SpinlockState::new();
     let lock = Lock { state, word: 0 };
-    let locks = [lock; 128];
+    let locks = [lock; LOCKS];
     Machine {
-        n,
-        pin_only,
+        setup,
         cpus,
         threads,
         locks,
     }
 }
 
-// The fresh machine of n CPUs. Another n than 1 to 4 is refused.
-pub fn fresh(n: u32, pin_only: bool) -> Made
-    ensures { λ r. ⌜ madeSays r ≡ State·fresh n «pin_only» ⌝ }
+// The fresh machine of n 1, all flags off, with the code of a refusal.
+fn refused() -> Made
+    ensures { λ r. ⌜ madeSays r ≡ notMade ⌝ }
 {
-    if n == 0 {
-        return Made {
-            code: Code::Einval,
-            machine: fresh_machine(1, false),
-        };
+    let setup = Setup {
+        n: 1,
+        pin_only: false,
+    };
+    Made {
+        code: Code::Einval,
+        machine: fresh_machine(setup),
     }
-    if n > CPU_SLOTS {
-        return Made {
-            code: Code::Einval,
-            machine: fresh_machine(1, false),
-        };
+}
+
+// The fresh machine of a setup. One that no machine can have is refused.
+pub fn fresh(setup: Setup) -> Made
+    ensures { λ r. ⌜ madeSays r ≡ State·fresh setup ⌝ }
+{
+    if !setup.is_ok() {
+        return refused();
     }
     Made {
         code: Code::Ok,
-        machine: fresh_machine(n, pin_only),
+        machine: fresh_machine(setup),
     }
 }
 
 // The fresh machine that a setup byte asks for: n in the upper four bits, then pin-only, then three zero bits.
-pub fn setup(byte: u8) -> Made
+pub fn from_setup_byte(byte: u8) -> Made
     ensures { λ r. ⌜ madeSays r ≡ State·setup byte ⌝ }
 {
     if byte % 8 != 0 {
-        return Made {
-            code: Code::Einval,
-            machine: fresh_machine(1, false),
-        };
+        return refused();
     }
-    fresh((byte / 16) as u32, byte / 8 % 2 == 1)
-}
-
-// The thread word of a thread: the address that stands for it in owner words.
-pub fn thread_word(thread: ThreadId) -> u64
-    ensures { λ r. ⌜ r ≡ State·threadWord (thread .0) ⌝ }
-{
-    4 * (thread.0 as u64 + 1)
+    let setup = Setup {
+        n: (byte / 16) as u32,
+        pin_only: byte / 8 % 2 == 1,
+    };
+    fresh(setup)
 }

@@ -6,9 +6,15 @@ use mathlib.Core.List.{List}
 use lib.Dec.{eqb}
 use lib.IntN.{ℤ}
 use lib.ListN.{length, getD, drop}
-use Rattle.error.specs.Codes.{EINVAL, isOK}
-use Rattle.record.specs.Answer.{answerBytes, written}
+use Rattle.error.specs.Codes.{OK, EINVAL, numberOf, isOK}
+use Rattle.error.specs.Answer.{Answer, answer}
+use Rattle.answers.specs.Answer.{answerBytes, written, putCode}
 use Rattle.setup_run.specs.Run.{codeFromSetup, roomFromSetup}
+use Rattle.program.specs.declared.Response.{Response}
+
+-- A response's code and size.
+abbrev pub responseSays : Response → Answer ℕ
+responseSays a = answer (numberOf (a .code)) (a .size)
 
 -- The setup byte, and the log behind it.
 abbrev pub setupOf : List ℕ → ℕ
@@ -25,9 +31,13 @@ inputCode input room = cond (eqb (length input) 0) EINVAL (codeFromSetup (setupO
 abbrev pub refusalRoom : ℤ → List ℕ → List ℕ
 refusalRoom code room = written (answerBytes code 0) room
 
+-- The code and the size of that one answer: with room under 8 bytes ENOMEM, and none is written.
+abbrev pub refusalSize : ℕ → Answer ℕ
+refusalSize room = answer (putCode room) (cond (isOK (putCode room)) 8 0)
+
 -- How many bytes the answers have: eight for each record, or one answer.
-unfoldable pub respondSize : List ℕ → ℕ → ℕ
-respondSize input room = cond (isOK (inputCode input room)) (length (logOf input) / 12 * 8) 8
+unfoldable pub respondSize : List ℕ → ℕ → Answer ℕ
+respondSize input room = cond (isOK (inputCode input room)) (answer OK (length (logOf input) / 12 * 8)) (refusalSize room)
 
 -- The room afterwards: the answers of the run, or the one answer.
 unfoldable pub respondRoom : List ℕ → List ℕ → List ℕ

@@ -10,9 +10,10 @@ use borrow.Author.Tests.{ltb-false, ne-eqb}
 use Rattle.error.specs.Codes.{OK, ENOMEM, EINVAL, EOVERFLOW, isOK}
 use Rattle.machine.specs.State.{setup}
 use Rattle.machine.specs.declared.Machine.{Machine}
-use Rattle.record.specs.Answer.{answerBytes}
+use Rattle.answers.specs.Answer.{answerBytes}
 use Rattle.wellformed.specs.WellFormed.{wellFormed}
-use Rattle.runner.specs.Run.{stateAt, answerAt, roomAt, runCode, ran, ranRoom}
+use Rattle.operations.specs.Log.{stateAt, answerAt}
+use Rattle.runner.specs.Run.{roomAt, runCode, ran, ranRoom}
 use Rattle.runner.proofs.Refused.{refused-room}
 use Rattle.setup_run.specs.Run.{codeFromSetup}
 use Rattle.setup_run.proofs.Cases.{accepted-runs}
@@ -54,7 +55,7 @@ same-end m old new room size state = rw (size, state)
 
 -- The runner.
 pub rearranged-bytes : (m : Machine) (old new room : List ℕ) (π : ℕ → ℕ) → length new ≡ length old
-    → Rearranged (m .n) (length old / 12) old new π → SameBytes m old new room π
+    → Rearranged (m .setup) (length old / 12) old new π → SameBytes m old new room π
 rearranged-bytes m old new room π size r =
     let same : SameRun m (length old / 12) old new π = rearranged-log m (length old / 12) old new π r in
     let end : ran m new (length room) ≡ ran m old (length room) = same-end m old new (length room) size (same .state) in
@@ -95,7 +96,7 @@ same-code s old new room e = ap (λ a. cond (isOK (setup s .code)) (a .code) (se
 
 -- The program.
 pub rearranged-response : (s : ℕ) (old new room : List ℕ) (π : ℕ → ℕ) → length new ≡ length old
-    → Rearranged (setup s .value .n) (length old / 12) old new π → SameResponse s old new room π
+    → Rearranged (setup s .value .setup) (length old / 12) old new π → SameResponse s old new room π
 rearranged-response s old new room π size r =
     let same : SameBytes (setup s .value) old new room π = rearranged-bytes (setup s .value) old new room π size r in
     let code : inputCode (s ∷ new) (length room) ≡ inputCode (s ∷ old) (length room) =

@@ -13,16 +13,15 @@ use Rattle.error.specs.Codes.{OK, EINVAL}
 use Rattle.error.specs.Answer.{answer}
 use Rattle.machine.specs.State.{threadMask, freshMachine, fresh, setup}
 use Rattle.machine.specs.declared.Machine.{Machine}
-use Rattle.record.specs.Record.{fieldsOf, operationOf, isPriority, cpuAlone, cpuAndThread, cpuAndLock, threadAndMasks, threadAndPriority, lockAlone, requestOf}
-use Rattle.words.specs.Signed.{toSigned, fromSigned}
+use Rattle.record.specs.Record.{fieldsOf, rowOf, fits, requestOf}
 use Rattle.words.specs.Bit.{bit}
 use Rattle.rules.specs.Rules.{up, put}
-use Rattle.runner.specs.Cells.{Cell, run, hold, thread, lock}
-use Rattle.runner.specs.Step.{answered, next}
-use Rattle.runner.specs.Run.{recordAt, stateAt, answerAt}
+use Rattle.operations.specs.Cells.{Cell, run, hold, thread, lock}
+use Rattle.operations.specs.Asked.{answered, next}
+use Rattle.operations.specs.Log.{recordAt, stateAt, answerAt}
 use Rattle.rearranged.specs.Clash.{Footprint, In, here, there, Clash, writes-first, writes-second, footprint}
 use Rattle.rearranged.specs.Rearranged.{Rearranged}
-use Rattle.rearranged.specs.Exhibit.{oneByOne, interleaved, came, turnedRound, turned}
+use Rattle.rearranged.specs.Exhibit.{twoCpus, oneByOne, interleaved, came, turnedRound, turned}
 
 -- A clash as a test.
 same : Cell → Cell → Bool
@@ -94,57 +93,68 @@ below-four P a b c d (suc (suc zero)) h = c
 below-four P a b c d (suc (suc (suc zero))) h = d
 below-four P a b c d (suc (suc (suc (suc k)))) h = absurd (omega arith)
 
-abbrev Free : ℕ → ℕ → Type 0
-Free j k = clashing (footprint 2 (recordAt interleaved j)) (footprint 2 (recordAt interleaved k)) ≡ false
+-- On two CPUs with either pin-only setting.
+module _ (pinOnly : Bool) where
+  -- The row of a record of the interleaved log.
+  abbrev rowAt : ℕ → Footprint
+  rowAt k = footprint (twoCpus pinOnly) (recordAt interleaved k)
 
--- The records of two CPUs do not clash.
-free : Free 0 1 × (Free 0 3 × Free 2 3)
-unfolding same among meet clashing requestOf fieldsOf operationOf isPriority cpuAlone cpuAndThread cpuAndLock threadAndMasks threadAndPriority lockAlone toSigned fromSigned
-free = (refl, (refl, refl))
+  -- Two of them do not clash, by the test.
+  abbrev Free : ℕ → ℕ → Type 0
+  Free j k = clashing (rowAt j) (rowAt k) ≡ false
 
-barred : (j k : ℕ) {A : Type 0} → Free j k
-    → Clash (footprint 2 (recordAt interleaved j)) (footprint 2 (recordAt interleaved k)) → A
-barred j k e c = absurd (false≢true (sym e ∙ clash-clashing _ _ c))
+  -- The records of two CPUs do not clash.
+  free : Free 0 1 × (Free 0 3 × Free 2 3)
+  unfolding same among meet clashing requestOf fieldsOf rowOf fits
+  free = (refl, (refl, refl))
 
-abbrev Kept : ℕ → ℕ → Type 0
-Kept j k = j < k → Clash (footprint 2 (recordAt interleaved j)) (footprint 2 (recordAt interleaved k)) → came j < came k
+  barred : (j k : ℕ) {A : Type 0} → Free j k → Clash (rowAt j) (rowAt k) → A
+  barred j k e c = absurd (false≢true (sym e ∙ clash-clashing _ _ c))
 
--- The interleaved log is the other one rearranged, and is not the same log.
-pub two-ways : Rearranged 2 4 oneByOne interleaved came
-two-ways =
-    record {
-      permutes = record {
-        below = below-four (λ k. came k < 4) (omega arith) (omega arith) (omega arith) (omega arith);
-        once = λ j k g h. below-four (λ j. came j ≡ came k → j ≡ k)
-            (below-four (λ k. 2 ≡ came k → 0 ≡ k) (λ e. refl) (λ e. absurd (omega arith)) (λ e. absurd (omega arith)) (λ e. absurd (omega arith)) k h)
-            (below-four (λ k. 0 ≡ came k → 1 ≡ k) (λ e. absurd (omega arith)) (λ e. refl) (λ e. absurd (omega arith)) (λ e. absurd (omega arith)) k h)
-            (below-four (λ k. 3 ≡ came k → 2 ≡ k) (λ e. absurd (omega arith)) (λ e. absurd (omega arith)) (λ e. refl) (λ e. absurd (omega arith)) k h)
-            (below-four (λ k. 1 ≡ came k → 3 ≡ k) (λ e. absurd (omega arith)) (λ e. absurd (omega arith)) (λ e. absurd (omega arith)) (λ e. refl) k h) j g;
-      };
-      moved = below-four (λ k. recordAt interleaved k ≡ recordAt oneByOne (came k)) refl refl refl refl;
-      kept = λ j k b h. below-four (λ k. j < k → k < 4 → Kept j k)
-          (λ l _ _. absurd (omega arith))
-          (λ l _. below-four (λ j. Kept j 1) (λ _. barred 0 1 (free .0)) (λ b. absurd (omega arith)) (λ b. absurd (omega arith)) (λ b. absurd (omega arith)) j (omega arith))
-          (λ l _. below-four (λ j. Kept j 2) (λ _ _. omega arith) (λ _ _. omega arith) (λ b. absurd (omega arith)) (λ b. absurd (omega arith)) j (omega arith))
-          (λ l _. below-four (λ j. Kept j 3) (λ _. barred 0 3 (free .1 .0)) (λ _ _. omega arith) (λ _. barred 2 3 (free .1 .1)) (λ b. absurd (omega arith)) j (omega arith))
-          k h b h b;
-    }
+  -- Two that clash keep their order.
+  abbrev Kept : ℕ → ℕ → Type 0
+  Kept j k = j < k → Clash (rowAt j) (rowAt k) → came j < came k
+
+  -- The interleaved log is the other one rearranged, and is not the same log.
+  pub two-ways : Rearranged (twoCpus pinOnly) 4 oneByOne interleaved came
+  two-ways =
+      record {
+        permutes = record {
+          below = below-four (λ k. came k < 4) (omega arith) (omega arith) (omega arith) (omega arith);
+          once = λ j k g h. below-four (λ j. came j ≡ came k → j ≡ k)
+              (below-four (λ k. 2 ≡ came k → 0 ≡ k) (λ e. refl) (λ e. absurd (omega arith)) (λ e. absurd (omega arith)) (λ e. absurd (omega arith)) k h)
+              (below-four (λ k. 0 ≡ came k → 1 ≡ k) (λ e. absurd (omega arith)) (λ e. refl) (λ e. absurd (omega arith)) (λ e. absurd (omega arith)) k h)
+              (below-four (λ k. 3 ≡ came k → 2 ≡ k) (λ e. absurd (omega arith)) (λ e. absurd (omega arith)) (λ e. refl) (λ e. absurd (omega arith)) k h)
+              (below-four (λ k. 1 ≡ came k → 3 ≡ k) (λ e. absurd (omega arith)) (λ e. absurd (omega arith)) (λ e. absurd (omega arith)) (λ e. refl) k h) j g;
+        };
+        moved = below-four (λ k. recordAt interleaved k ≡ recordAt oneByOne (came k)) refl refl refl refl;
+        kept = λ j k b h. below-four (λ k. j < k → k < 4 → Kept j k)
+            (λ l _ _. absurd (omega arith))
+            (λ l _. below-four (λ j. Kept j 1)
+            (λ _. barred 0 1 (free .0)) (λ b. absurd (omega arith)) (λ b. absurd (omega arith)) (λ b. absurd (omega arith)) j (omega arith))
+            (λ l _. below-four (λ j. Kept j 2)
+            (λ _ _. omega arith) (λ _ _. omega arith) (λ b. absurd (omega arith)) (λ b. absurd (omega arith)) j (omega arith))
+            (λ l _. below-four (λ j. Kept j 3)
+            (λ _. barred 0 3 (free .1 .0)) (λ _ _. omega arith) (λ _. barred 2 3 (free .1 .1)) (λ b. absurd (omega arith)) j (omega arith))
+            k h b h b;
+      }
 
 pub not-the-same : interleaved ≢ oneByOne
 not-the-same e = let z : _≡_ {A = ℕ} 1 0 = ap (λ l. getD l 0 0) e in omega arith
 
+-- The machine of setup byte 20.
 abbrev start : Machine
 start = setup 0x20 .value
 
 -- Turned round, CPU 0's two records clash.
-pub turned-clash : Clash (footprint 2 (recordAt turnedRound 0)) (footprint 2 (recordAt turnedRound 1))
-unfolding requestOf fieldsOf operationOf isPriority cpuAlone cpuAndThread cpuAndLock threadAndMasks threadAndPriority lockAlone toSigned fromSigned
-turned-clash = writes-first (run 0) (here refl) (here refl)
+pub turned-clash : (pinOnly : Bool) → Clash (footprint (twoCpus pinOnly) (recordAt turnedRound 0)) (footprint (twoCpus pinOnly) (recordAt turnedRound 1))
+unfolding requestOf fieldsOf rowOf fits
+turned-clash pinOnly = writes-first (run 0) (here refl) (here refl)
 
 -- Each record is where it should be, and yet the put has another answer: the premise is needed.
 pub turned-moved : (k : ℕ) → k < 4 → recordAt turnedRound k ≡ recordAt oneByOne (turned k)
 turned-moved = below-four (λ k. recordAt turnedRound k ≡ recordAt oneByOne (turned k)) refl refl refl refl
 
 pub turned-changes : (answerAt start turnedRound 0 ≡ answer EINVAL 0) × (answerAt start oneByOne (turned 0) ≡ answer OK 0)
-unfolding requestOf fieldsOf operationOf isPriority cpuAlone cpuAndThread cpuAndLock threadAndMasks threadAndPriority lockAlone toSigned fromSigned threadMask freshMachine fresh setup answered next stateAt up put bit
+unfolding requestOf fieldsOf rowOf fits threadMask freshMachine fresh setup answered next stateAt up put bit
 turned-changes = (refl, refl)

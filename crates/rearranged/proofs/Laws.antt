@@ -1,19 +1,23 @@
 -- Demand 3, rearrangement: every log on every machine, rearranged with the order of clashing records kept, gives each record the answer that
 -- it had, and the same end machine. Assumes nothing.
 use mathlib.Core.Path.{_≡_, refl, ap, sym, _∙_}
-use mathlib.Core.Bool.{Bool}
 use mathlib.Core.List.{List}
 use Prim.Native.Nat.{ℕ, zero, suc}
 use Rattle.error.specs.Answer.{Answer}
 use Rattle.order.specs.Cells.{Op, after, reply}
+use Rattle.spinlock.specs.declared.Operation.{Operation as LockOperation}
+use Rattle.machine.specs.declared.Setup.{Setup}
 use Rattle.machine.specs.declared.Machine.{Machine}
 use Rattle.record.specs.Record.{requestOf}
+use Rattle.record.specs.declared.CpuOperation.{CpuOperation}
+use Rattle.record.specs.declared.ThreadOperation.{ThreadOperation}
+use Rattle.record.specs.declared.Operation.{Operation}
 use Rattle.record.specs.declared.Request.{Request}
-use Rattle.runner.specs.Cells.{machineStore}
-use Rattle.runner.specs.Operations.{operation}
-use Rattle.runner.specs.Step.{answered, next}
-use Rattle.runner.specs.Run.{recordAt, stateAt, answerAt}
-use Rattle.rearranged.specs.Clash.{Footprint, row, footprint, Clash, writes-first, writes-second}
+use Rattle.operations.specs.Cells.{machineStore}
+use Rattle.operations.specs.Operations.{onCpu, onLock, onThread, operationBy, operation}
+use Rattle.operations.specs.Asked.{answered, next}
+use Rattle.operations.specs.Log.{recordAt, stateAt, answerAt}
+use Rattle.rearranged.specs.Clash.{Footprint, rowOnCpu, rowOnLock, rowOnThread, rowBy, row, footprint, Clash, writes-first, writes-second}
 use Rattle.rearranged.specs.Rearranged.{Rearranged, SameRun}
 use Rattle.rearranged.proofs.Sequence.{Swap, Same, end, answer, end-last, rearrange}
 use Rattle.rearranged.proofs.Commute.{swap, after-shape}
@@ -23,25 +27,38 @@ use Rattle.rearranged.proofs.MachineStore.{Shape, shape, machine-laws}
 abbrev cellsOf : Op machineStore (Answer ℕ) → Footprint
 cellsOf o = record { reads = o .reads; writes = o .writes }
 
-pub row-is : (n : ℕ) (pinOnly : Bool) (r : Request) → cellsOf (operation n pinOnly r) ≡ row r
-row-is n pinOnly Request.Malformed = refl
-row-is n pinOnly (Request.Up c) = refl
-row-is n pinOnly (Request.Down c) = refl
-row-is n pinOnly (Request.Put c t) = refl
-row-is n pinOnly (Request.Take c t) = refl
-row-is n pinOnly (Request.Acquire c l) = refl
-row-is n pinOnly (Request.Nested c l) = refl
-row-is n pinOnly (Request.Release c l) = refl
-row-is n pinOnly (Request.Mask t enable disable) = refl
-row-is n pinOnly (Request.Pin t c) = refl
-row-is n pinOnly (Request.Priority t a) = refl
-row-is n pinOnly (Request.Ipi c t) = refl
-row-is n pinOnly (Request.Owner l) = refl
+-- So it is of each family, and of every request.
+cpu-row : (op : CpuOperation) (c t : ℕ) → cellsOf (onCpu op c t) ≡ rowOnCpu op c t
+cpu-row CpuOperation.Up c t = refl
+cpu-row CpuOperation.Down c t = refl
+cpu-row CpuOperation.Put c t = refl
+cpu-row CpuOperation.Take c t = refl
+
+lock-row : (s : Setup) (op : LockOperation) (c l : ℕ) → cellsOf (onLock s op c l) ≡ rowOnLock op c l
+lock-row s LockOperation.Acquire c l = refl
+lock-row s LockOperation.Nested c l = refl
+lock-row s LockOperation.Release c l = refl
+
+thread-row : (s : Setup) (op : ThreadOperation) (c t : ℕ) → cellsOf (onThread s op c t) ≡ rowOnThread op t
+thread-row s (ThreadOperation.Mask enable disable) c t = refl
+thread-row s ThreadOperation.Pin c t = refl
+thread-row s (ThreadOperation.Priority a) c t = refl
+
+row-by : (s : Setup) (op : Operation) (c t l : ℕ) → cellsOf (operationBy s op c t l) ≡ rowBy op c t l
+row-by s Operation.Malformed c t l = refl
+row-by s (Operation.OnCpu op) c t l = cpu-row op c t
+row-by s (Operation.OnLock op) c t l = lock-row s op c l
+row-by s (Operation.OnThread op) c t l = thread-row s op c t
+row-by s Operation.Ipi c t l = refl
+row-by s Operation.Owner c t l = refl
+
+pub row-is : (s : Setup) (r : Request) → cellsOf (operation s r) ≡ row r
+row-is s r = row-by s (r .operation) (r .cpu .0) (r .thread .0) (r .lock .0)
 
 -- A record's operation and its step on the machines of one shape.
 module _ (s : Shape) where
   abbrev asks : List ℕ → Op machineStore (Answer ℕ)
-  asks bytes = operation (s .n) (s .pinOnly) (requestOf (s .n) bytes)
+  asks bytes = operation (s .setup) (requestOf (s .setup) bytes)
 
   abbrev steps : Machine → List ℕ → Machine
   steps m bytes = after machineStore (Answer ℕ) m (asks bytes)
@@ -50,10 +67,10 @@ module _ (s : Shape) where
   replies m bytes = reply machineStore (Answer ℕ) m (asks bytes)
 
   abbrev Clashes : List ℕ → List ℕ → Type 0
-  Clashes a b = Clash (footprint (s .n) a) (footprint (s .n) b)
+  Clashes a b = Clash (footprint (s .setup) a) (footprint (s .setup) b)
 
   apart : (a b : List ℕ) → ¬ (Clashes a b) → ¬ (Clash (cellsOf (asks a)) (cellsOf (asks b)))
-  apart a b free = rw (row-is (s .n) (s .pinOnly) (requestOf (s .n) a), row-is (s .n) (s .pinOnly) (requestOf (s .n) b)) free
+  apart a b free = rw (row-is (s .setup) (requestOf (s .setup) a), row-is (s .setup) (requestOf (s .setup) b)) free
 
   swapped : (m : Machine) (a b : List ℕ) → Unit {0} → ¬ (Clashes b a) → Swap steps replies m a b
   swapped m a b i free =
@@ -91,7 +108,7 @@ module _ (m : Machine) (log : List ℕ) where
       ∙ answered-is (shape m) _ (recordAt log k) (end-shape (shape m) k m (recordAt log))
 
 -- The theorem.
-pub rearranged-log : (m : Machine) (count : ℕ) (old new : List ℕ) (π : ℕ → ℕ) → Rearranged (m .n) count old new π
+pub rearranged-log : (m : Machine) (count : ℕ) (old new : List ℕ) (π : ℕ → ℕ) → Rearranged (m .setup) count old new π
     → SameRun m count old new π
 rearranged-log m count old new π r =
     let same : Same (steps (shape m)) (replies (shape m)) count m (recordAt old) (recordAt new) π =

@@ -2,7 +2,6 @@
 -- Assumes nothing.
 use mathlib.Core.Path.{_≡_, refl, ap}
 use mathlib.Core.Logic.{_≢_}
-use mathlib.Core.Bool.{Bool}
 use mathlib.Core.List.{List, [], _∷_}
 use Prim.Native.Nat.{ℕ, zero, suc}
 use native.Mathlib.Omega.{arith}
@@ -10,22 +9,22 @@ use native.Mathlib.Decide.{ℕ-discrete}
 use lib.ListN.{length, getD, set, length-set}
 use lib.Seq.{getD-set-other, ext-getD}
 use Rattle.machine.specs.State.{noCpu, noThread, freeLock}
+use Rattle.machine.specs.declared.Setup.{Setup}
 use Rattle.machine.specs.declared.Cpu.{Cpu}
 use Rattle.machine.specs.declared.Machine.{Machine}
-use Rattle.runner.specs.Cells.{Cell, run, hold, thread, lock, Cell-discrete, Val, get, put, machineStore}
+use Rattle.operations.specs.Cells.{Cell, run, hold, thread, lock, Cell-discrete, Val, get, put, machineStore}
 use Rattle.rearranged.proofs.Commute.{Laws}
 
 -- What no operation changes.
 pub record Shape : Type 0 where
-  pub n : ℕ
-  pub pinOnly : Bool
+  pub setup : Setup
   pub cpus : ℕ
   pub threads : ℕ
   pub locks : ℕ
 
 abbrev pub shape : Machine → Shape
 shape m =
-    record { n = m .n; pinOnly = m .«pin_only»; cpus = length (m .cpus); threads = length (m .threads); locks = length (m .locks) }
+    record { setup = m .setup; cpus = length (m .cpus); threads = length (m .threads); locks = length (m .locks) }
 
 module _ {A B : Type 0} (part : A → B) (d : A) where
   -- A part that the new element shares with the old is the same everywhere.
@@ -80,7 +79,7 @@ cpu-equal a b p q = λ i. record { run = p i; hold = q i }
 
 equal : (m n : Machine) → shape m ≡ shape n → ((c : Cell) → get c m ≡ get c n) → m ≡ n
 equal m n s e =
-    λ i. record { n = s i .n; «pin_only» = s i .pinOnly; cpus = same-cpus i; threads = same-threads i; locks = same-locks i }
+    λ i. record { setup = s i .setup; cpus = same-cpus i; threads = same-threads i; locks = same-locks i }
   where
     same-cpus : m .cpus ≡ n .cpus
     same-cpus = ext-getD noCpu (m .cpus) (n .cpus) (ap (λ h. h .cpus) s) (λ i b. cpu-equal _ _ (e (run i)) (e (hold i)))

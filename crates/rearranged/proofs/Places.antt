@@ -9,8 +9,9 @@ use lib.Seq.{length-take-le, take-append-le, drop-append-le, take-at, drop-at}
 use borrow.Author.Tests.{le-ltb}
 use Rattle.error.specs.Answer.{Answer}
 use Rattle.machine.specs.declared.Machine.{Machine}
-use Rattle.record.specs.Answer.{answerBytes, written}
-use Rattle.runner.specs.Run.{answerAt, writtenAt, roomAt}
+use Rattle.answers.specs.Answer.{answerBytes, written}
+use Rattle.operations.specs.Log.{answerAt}
+use Rattle.runner.specs.Run.{writtenAt, roomAt}
 use Rattle.rearranged.specs.Rearranged.{place}
 
 eight : (a : Answer ℕ) → length (answerBytes (a .code) (a .value)) ≡ 8

@@ -2,34 +2,55 @@
 use mathlib.Core.Path.{_≡_}
 use mathlib.Core.List.{List, [], _∷_, _++_}
 use Prim.Native.Nat.{ℕ}
+use Rattle.spinlock.specs.declared.Operation.{Operation as LockOperation}
+use Rattle.machine.specs.declared.Setup.{Setup}
 use Rattle.record.specs.Record.{requestOf}
+use Rattle.record.specs.declared.CpuOperation.{CpuOperation}
+use Rattle.record.specs.declared.ThreadOperation.{ThreadOperation}
+use Rattle.record.specs.declared.Operation.{Operation}
 use Rattle.record.specs.declared.Request.{Request}
-use Rattle.runner.specs.Cells.{Cell, run, hold, thread, lock}
+use Rattle.operations.specs.Cells.{Cell, run, hold, thread, lock}
 
 -- The cells that a record reads, and those that it writes.
 pub record Footprint : Type 0 where
   pub reads : List Cell
   pub writes : List Cell
 
--- The table. A record that fails the form test touches no cell.
-abbrev pub row : Request → Footprint
-row Request.Malformed = record { reads = []; writes = [] }
-row (Request.Up c) = record { reads = []; writes = run (c .0) ∷ [] }
-row (Request.Down c) = record { reads = []; writes = run (c .0) ∷ [] }
-row (Request.Put c t) = record { reads = []; writes = run (c .0) ∷ thread (t .0) ∷ [] }
-row (Request.Take c t) = record { reads = hold (c .0) ∷ []; writes = run (c .0) ∷ thread (t .0) ∷ [] }
-row (Request.Acquire c l) = record { reads = run (c .0) ∷ []; writes = lock (l .0) ∷ hold (c .0) ∷ [] }
-row (Request.Nested c l) = record { reads = run (c .0) ∷ []; writes = lock (l .0) ∷ hold (c .0) ∷ [] }
-row (Request.Release c l) = record { reads = run (c .0) ∷ []; writes = lock (l .0) ∷ hold (c .0) ∷ [] }
-row (Request.Mask t enable disable) = record { reads = []; writes = thread (t .0) ∷ [] }
-row (Request.Pin t c) = record { reads = []; writes = thread (t .0) ∷ [] }
-row (Request.Priority t a) = record { reads = []; writes = thread (t .0) ∷ [] }
-row (Request.Ipi c t) = record { reads = run 0 ∷ run 1 ∷ run 2 ∷ run 3 ∷ thread (t .0) ∷ []; writes = [] }
-row (Request.Owner l) = record { reads = lock (l .0) ∷ []; writes = [] }
+-- The table, 0 to 3.
+abbrev pub rowOnCpu : CpuOperation → ℕ → ℕ → Footprint
+rowOnCpu CpuOperation.Up c t = record { reads = []; writes = run c ∷ [] }
+rowOnCpu CpuOperation.Down c t = record { reads = []; writes = run c ∷ [] }
+rowOnCpu CpuOperation.Put c t = record { reads = []; writes = run c ∷ thread t ∷ [] }
+rowOnCpu CpuOperation.Take c t = record { reads = hold c ∷ []; writes = run c ∷ thread t ∷ [] }
 
--- The row of twelve bytes on a machine of n CPUs: which records fail the form test depends on n alone.
-abbrev pub footprint : ℕ → List ℕ → Footprint
-footprint n bytes = row (requestOf n bytes)
+-- 4, 5 and 6.
+abbrev pub rowOnLock : LockOperation → ℕ → ℕ → Footprint
+rowOnLock LockOperation.Acquire c l = record { reads = run c ∷ []; writes = lock l ∷ hold c ∷ [] }
+rowOnLock LockOperation.Nested c l = record { reads = run c ∷ []; writes = lock l ∷ hold c ∷ [] }
+rowOnLock LockOperation.Release c l = record { reads = run c ∷ []; writes = lock l ∷ hold c ∷ [] }
+
+-- 7, 8 and 9.
+abbrev pub rowOnThread : ThreadOperation → ℕ → Footprint
+rowOnThread (ThreadOperation.Mask enable disable) t = record { reads = []; writes = thread t ∷ [] }
+rowOnThread ThreadOperation.Pin t = record { reads = []; writes = thread t ∷ [] }
+rowOnThread (ThreadOperation.Priority a) t = record { reads = []; writes = thread t ∷ [] }
+
+-- The whole table, with 10 and 11. A record that fails the form test touches no cell.
+abbrev pub rowBy : Operation → ℕ → ℕ → ℕ → Footprint
+rowBy Operation.Malformed c t l = record { reads = []; writes = [] }
+rowBy (Operation.OnCpu op) c t l = rowOnCpu op c t
+rowBy (Operation.OnLock op) c t l = rowOnLock op c l
+rowBy (Operation.OnThread op) c t l = rowOnThread op t
+rowBy Operation.Ipi c t l = record { reads = run 0 ∷ run 1 ∷ run 2 ∷ run 3 ∷ thread t ∷ []; writes = [] }
+rowBy Operation.Owner c t l = record { reads = lock l ∷ []; writes = [] }
+
+-- The row of a request, with the numbers of its CPU, thread and lock.
+abbrev pub row : Request → Footprint
+row r = rowBy (r .operation) (r .cpu .0) (r .thread .0) (r .lock .0)
+
+-- The row of twelve bytes on a machine of this setup: which records fail the form test depends on the setup alone.
+abbrev pub footprint : Setup → List ℕ → Footprint
+footprint s bytes = row (requestOf s bytes)
 
 -- A cell is in a list.
 pub data In {C : Type 0} (c : C) : List C → Type 0 where

@@ -5,8 +5,10 @@ use mathlib.Core.List.{List, _∷_}
 use Prim.Native.Nat.{ℕ, _*_, _/_, _<_}
 use lib.ListN.{length, take, drop}
 use Rattle.error.specs.Codes.{isOK}
+use Rattle.machine.specs.declared.Setup.{Setup}
 use Rattle.machine.specs.declared.Machine.{Machine}
-use Rattle.runner.specs.Run.{recordAt, stateAt, answerAt, ran, ranRoom}
+use Rattle.operations.specs.Log.{recordAt, stateAt, answerAt}
+use Rattle.runner.specs.Run.{ran, ranRoom}
 use Rattle.program.specs.Program.{inputCode, respondSize, respondRoom}
 use Rattle.rearranged.specs.Clash.{Clash, footprint}
 
@@ -21,9 +23,9 @@ pub record Reordered {R : Type 0} (Keep : R → R → Type 0) (n : ℕ) (old new
   pub moved : (k : ℕ) → k < n → new k ≡ old (π k)
   pub kept : (j k : ℕ) → j < k → k < n → Keep (new j) (new k) → π j < π k
 
--- A log of `count` records is rearranged on a machine of n CPUs: two records that clash keep their order.
-abbrev pub Rearranged : ℕ → ℕ → List ℕ → List ℕ → (ℕ → ℕ) → Type 0
-Rearranged n count old new π = Reordered (λ a b. Clash (footprint n a) (footprint n b)) count (recordAt old) (recordAt new) π
+-- A log of `count` records is rearranged on a machine of this setup: two records that clash keep their order.
+abbrev pub Rearranged : Setup → ℕ → List ℕ → List ℕ → (ℕ → ℕ) → Type 0
+Rearranged s count old new π = Reordered (λ a b. Clash (footprint s a) (footprint s b)) count (recordAt old) (recordAt new) π
 
 -- Two logs of `count` records come to the same on a machine: the end machines are equal, and answer k of the new log is answer π k of the old.
 pub record SameRun (m : Machine) (count : ℕ) (old new : List ℕ) (π : ℕ → ℕ) : Type 0 where

@@ -1,123 +1,142 @@
--- Laws of records and answers: a request in range comes back from its encoding, a record that is accepted is the one encoding of its
--- request, whose numbers are in range, and an answer comes back from its bytes.
--- A record is taken apart into its fields, and each operation's form test says what the fields that it does not use are.
+-- Laws of records: a request in range comes back from its encoding, and a record that is accepted is the one encoding of its request, whose
+-- numbers are in range.
+-- A record is taken apart into its fields, and its operation's row says what the fields that it does not use are.
 -- Assumes nothing.
 use mathlib.Core.Path.{_≡_, refl, sym, ap, ap₂, _∙_, subst}
-use mathlib.Core.Bool.{true, _&&_, cond, false≢true}
+use mathlib.Core.Bool.{true, _&&_, cond}
 use mathlib.Core.List.{List, [], _∷_, _++_}
-use Prim.Native.Nat.{ℕ, zero, suc, _+_, _*_, _/_, _%_, _^_, _≤_, _<_}
+use Prim.Native.Nat.{ℕ, zero, suc, _+_, _*_, _/_, _%_, _^_, _<_}
 use native.Mathlib.Nat.{suc-ne-zero, suc-inj}
 use native.Mathlib.Omega.{arith}
-use lib.Dec.{eqb, lit<}
-use lib.IntN.{ℤ}
+use lib.Dec.{eqb, leb, lit<}
+use lib.IntN.{ℤ, pos, negsuc}
 use lib.ListN.{length, getD, drop}
-use borrow.Author.Tests.{lt-ltb, eqb-true}
-use Rattle.error.specs.Answer.{answer}
+use borrow.Author.Tests.{eqb-true, leb-true}
 use Rattle.words.specs.HighFirst.{highFirst, fromHighFirst}
 use Rattle.words.specs.Signed.{toSigned, fromSigned, SignedFits}
 use Rattle.words.proofs.Choice.{bool-ind, and-left, and-right}
 use Rattle.words.proofs.HighFirst.{AreBytes, high-first-back, from-high-first-back, from-high-first-lt}
-use Rattle.words.proofs.Signed.{from-signed-lt, to-from-signed, from-to-signed}
-use Rattle.machine.specs.State.{threadCount, lockCount}
-use Rattle.record.proofs.FormTest.{Numbered, numbered, priority-fits, cpu-alone-says, cpu-and-thread-says, cpu-and-lock-says, thread-and-masks-says, thread-and-priority-says, lock-alone-says}
-use Rattle.record.specs.Record.{fieldsOf, operationOf, isPriority, cpuAlone, cpuAndThread, cpuAndLock, threadAndMasks, threadAndPriority, lockAlone, wellFormed, carried, ofFields, requestOf, packed, encode}
-use Rattle.record.specs.Answer.{answerBytes, decodeAnswer}
+use Rattle.words.proofs.Signed.{to-from-signed, from-to-signed}
+use Rattle.spinlock.specs.declared.Operation.{Operation as LockOperation}
+use Rattle.machine.specs.State.{setupOk, isPriority}
+use Rattle.machine.specs.declared.Setup.{Setup}
+use Rattle.record.specs.Record.{
+  Row,
+  rowOf,
+  fieldsOf,
+  operandOk,
+  fits,
+  carried,
+  malformed,
+  ofFields,
+  requestOf,
+  packed,
+  wire,
+  encode,
+}
 use Rattle.record.specs.declared.Fields.{Fields}
+use Rattle.record.specs.declared.CpuOperation.{CpuOperation}
+use Rattle.record.specs.declared.ThreadOperation.{ThreadOperation}
 use Rattle.record.specs.declared.Operation.{Operation}
 use Rattle.record.specs.declared.Request.{Request}
+use Rattle.record.proofs.Table.{every-row}
+use Rattle.record.proofs.Range.{fit-says, priorityOk, row-priority}
 
--- An answer's bytes give its code back, whatever its value.
-pub code-back : (code : ℤ) (value : ℕ) → SignedFits 31 code → decodeAnswer (answerBytes code value) .code ≡ code
-unfolding decodeAnswer answerBytes
-code-back code value h = ap (toSigned 31) (high-first-back 4 (fromSigned 31 code) (from-signed-lt 31 code h)) ∙ to-from-signed 31 code h
+-- A priority fits 32 bits.
+priority-fits : (p : ℤ) → isPriority p ≡ true → SignedFits 31 p
+unfolding isPriority
+priority-fits (pos m) h = omega (arith, leb-true m 127 h)
+priority-fits (negsuc m) h = omega (arith, leb-true m 127 (and-left (leb m 127) true h))
 
--- An answer's bytes give its code and its value back.
-pub answer-back : (code : ℤ) (value : ℕ) → SignedFits 31 code → value < 2 ^ 32 → decodeAnswer (answerBytes code value) ≡ answer code value
-unfolding decodeAnswer answerBytes
-answer-back code value h k = ap₂ (λ (c : ℤ) (v : ℕ). answer c v) (code-back code value h) (high-first-back 4 value k)
-
--- The numbers of a request are in range, for a machine of n CPUs.
-abbrev pub InRange : ℕ → Request → Type 0
-InRange n Request.Malformed = ⊥
-InRange n (Request.Up c) = c .0 < n
-InRange n (Request.Down c) = c .0 < n
-InRange n (Request.Put c t) = (c .0 < n) × (t .0 < threadCount)
-InRange n (Request.Take c t) = (c .0 < n) × (t .0 < threadCount)
-InRange n (Request.Acquire c l) = (c .0 < n) × (l .0 < lockCount)
-InRange n (Request.Nested c l) = (c .0 < n) × (l .0 < lockCount)
-InRange n (Request.Release c l) = (c .0 < n) × (l .0 < lockCount)
-InRange n (Request.Mask t enable disable) = (t .0 < threadCount) × (enable < 2 ^ 32) × (disable < 2 ^ 32)
-InRange n (Request.Pin t c) = (c .0 < n) × (t .0 < threadCount)
-InRange n (Request.Priority t p) = (t .0 < threadCount) × (isPriority p ≡ true)
-InRange n (Request.Ipi c t) = (c .0 < n) × (t .0 < threadCount)
-InRange n (Request.Owner l) = l .0 < lockCount
-
--- The fields of a record whose fourth byte is zero.
+-- The fields of a record whose fourth byte is zero, and those of a request.
 abbrev fields : ℕ → ℕ → ℕ → ℕ → ℕ → ℕ → Fields
 fields op cpu thread lock a b = record { operation = op; cpu = cpu; thread = thread; lock = lock; zero = 0; a = a; b = b }
 
+abbrev pub fieldsFor : Request → Fields
+fieldsFor r =
+    fields (wire (r .operation) .0) (r .cpu .0) (r .thread .0) (r .lock .0) (wire (r .operation) .1) (wire (r .operation) .2)
+
+-- A request that a record can carry on a machine of n CPUs: its fields pass the form test, and A and B fit 32 bits.
+pub record InRange (n : ℕ) (r : Request) : Type 0 where
+  pub fit : fits n (rowOf (wire (r .operation) .0)) (fieldsFor r) ≡ true
+  pub cpu : r .cpu .0 < 16
+  pub priority : priorityOk (r .operation) ≡ true
+  pub a : wire (r .operation) .1 < 2 ^ 32
+  pub b : wire (r .operation) .2 < 2 ^ 32
+
 -- Packed fields are read back.
-module _ (n op cpu thread lock a b : ℕ) (small : cpu < 16) (fitsA : a < 2 ^ 32) (fitsB : b < 2 ^ 32) where
+module _ (op cpu thread lock a b : ℕ) (small : cpu < 16) (fitsA : a < 2 ^ 32) (fitsB : b < 2 ^ 32) where
   fields-back : fieldsOf (packed op cpu thread lock a b) ≡ fields op cpu thread lock a b
   unfolding fieldsOf
   fields-back =
       ap₂ (λ (x y : ℕ). fields x y thread lock (fromHighFirst (highFirst 4 a)) (fromHighFirst (highFirst 4 b))) (omega arith) (omega arith)
       ∙ ap₂ (λ (x y : ℕ). fields op cpu thread lock x y) (high-first-back 4 a fitsA) (high-first-back 4 b fitsB)
 
-  packed-back : requestOf n (packed op cpu thread lock a b) ≡ ofFields n (fields op cpu thread lock a b)
+  packed-back : (k : Setup) → setupOk k ≡ true → requestOf k (packed op cpu thread lock a b) ≡ ofFields (k .n) (fields op cpu thread lock a b)
   unfolding requestOf
-  packed-back = ap (ofFields n) fields-back
+  packed-back k ok = rw ok (ap (ofFields (k .n)) fields-back)
+
+-- An operation's own number, A and B ask for it.
+asks-back : (o : Operation) → priorityOk o ≡ true → rowOf (wire o .0) .asks (wire o .1) (wire o .2) ≡ o
+unfolding rowOf
+asks-back Operation.Malformed e = refl
+asks-back (Operation.OnCpu CpuOperation.Up) e = refl
+asks-back (Operation.OnCpu CpuOperation.Down) e = refl
+asks-back (Operation.OnCpu CpuOperation.Put) e = refl
+asks-back (Operation.OnCpu CpuOperation.Take) e = refl
+asks-back (Operation.OnLock LockOperation.Acquire) e = refl
+asks-back (Operation.OnLock LockOperation.Nested) e = refl
+asks-back (Operation.OnLock LockOperation.Release) e = refl
+asks-back (Operation.OnThread (ThreadOperation.Mask enable disable)) e = refl
+asks-back (Operation.OnThread ThreadOperation.Pin) e = refl
+asks-back (Operation.OnThread (ThreadOperation.Priority p)) e =
+    ap (λ (q : ℤ). Operation.OnThread (ThreadOperation.Priority q)) (to-from-signed 31 p (priority-fits p e))
+asks-back Operation.Ipi e = refl
+asks-back Operation.Owner e = refl
 
 -- A request in range comes back from its encoding.
-pub decode-encode : (n : ℕ) (r : Request) → n ≤ 16 → InRange n r → requestOf n (encode r) ≡ r
-unfolding encode operationOf cpuAlone cpuAndThread cpuAndLock threadAndMasks threadAndPriority lockAlone
-decode-encode n Request.Malformed k h = absurd h
-decode-encode n (Request.Up c) k h = packed-back n 0 (c .0) 0 0 0 0 (omega arith) (lit< tt) (lit< tt) ∙ rw (lt-ltb (c .0) n h)
-decode-encode n (Request.Down c) k h = packed-back n 1 (c .0) 0 0 0 0 (omega arith) (lit< tt) (lit< tt) ∙ rw (lt-ltb (c .0) n h)
-decode-encode n (Request.Put c t) k h =
-    packed-back n 2 (c .0) (t .0) 0 0 0 (omega arith) (lit< tt) (lit< tt) ∙ rw (lt-ltb (c .0) n (h .0), lt-ltb (t .0) threadCount (h .1))
-decode-encode n (Request.Take c t) k h =
-    packed-back n 3 (c .0) (t .0) 0 0 0 (omega arith) (lit< tt) (lit< tt) ∙ rw (lt-ltb (c .0) n (h .0), lt-ltb (t .0) threadCount (h .1))
-decode-encode n (Request.Acquire c l) k h =
-    packed-back n 4 (c .0) 0 (l .0) 0 0 (omega arith) (lit< tt) (lit< tt) ∙ rw (lt-ltb (c .0) n (h .0), lt-ltb (l .0) lockCount (h .1))
-decode-encode n (Request.Nested c l) k h =
-    packed-back n 5 (c .0) 0 (l .0) 0 0 (omega arith) (lit< tt) (lit< tt) ∙ rw (lt-ltb (c .0) n (h .0), lt-ltb (l .0) lockCount (h .1))
-decode-encode n (Request.Release c l) k h =
-    packed-back n 6 (c .0) 0 (l .0) 0 0 (omega arith) (lit< tt) (lit< tt) ∙ rw (lt-ltb (c .0) n (h .0), lt-ltb (l .0) lockCount (h .1))
-decode-encode n (Request.Mask t enable disable) k h =
-    packed-back n 7 0 (t .0) 0 enable disable (lit< tt) (h .1) (h .2) ∙ rw (lt-ltb (t .0) threadCount (h .0))
-decode-encode n (Request.Pin t c) k h =
-    packed-back n 8 (c .0) (t .0) 0 0 0 (omega arith) (lit< tt) (lit< tt) ∙ rw (lt-ltb (c .0) n (h .0), lt-ltb (t .0) threadCount (h .1))
-decode-encode n (Request.Priority t p) k h =
-    let fits = priority-fits p (h .1) in
-    packed-back n 9 0 (t .0) 0 (fromSigned 31 p) 0 (lit< tt) (from-signed-lt 31 p fits) (lit< tt)
-    ∙ rw (to-from-signed 31 p fits, lt-ltb (t .0) threadCount (h .0), h .1)
-decode-encode n (Request.Ipi c t) k h =
-    packed-back n 10 (c .0) (t .0) 0 0 0 (omega arith) (lit< tt) (lit< tt) ∙ rw (lt-ltb (c .0) n (h .0), lt-ltb (t .0) threadCount (h .1))
-decode-encode n (Request.Owner l) k h = packed-back n 11 0 0 (l .0) 0 0 (lit< tt) (lit< tt) (lit< tt) ∙ rw (lt-ltb (l .0) lockCount h)
-
--- What fields that pass their operation's form test show of the request: its numbers are in range, and its encoding has those fields.
-abbrev Carries : ℕ → Fields → Request → Type 0
-Carries n f r = InRange n r × (packed (f .operation) (f .cpu) (f .thread) (f .lock) (f .a) (f .b) ≡ encode r)
-
-carries : (n : ℕ) (op : Operation) (f : Fields) → f .a < 2 ^ 32 → f .b < 2 ^ 32 → Numbered (f .operation) op → wellFormed n op f ≡ true
-    → Carries n f (carried op f)
+pub decode-encode : (k : Setup) (r : Request) → setupOk k ≡ true → InRange (k .n) r → requestOf k (encode r) ≡ r
 unfolding encode
-carries n Operation.Unnamed f fitsA fitsB k good = absurd (false≢true good)
-carries n Operation.Up f fitsA fitsB k good = let s = cpu-alone-says n f good in (s .0, rw (k, s .1, s .2, s .3, s .4))
-carries n Operation.Down f fitsA fitsB k good = let s = cpu-alone-says n f good in (s .0, rw (k, s .1, s .2, s .3, s .4))
-carries n Operation.Put f fitsA fitsB k good = let s = cpu-and-thread-says n f good in ((s .0, s .1), rw (k, s .2, s .3, s .4))
-carries n Operation.Take f fitsA fitsB k good = let s = cpu-and-thread-says n f good in ((s .0, s .1), rw (k, s .2, s .3, s .4))
-carries n Operation.Acquire f fitsA fitsB k good = let s = cpu-and-lock-says n f good in ((s .0, s .2), rw (k, s .1, s .3, s .4))
-carries n Operation.Nested f fitsA fitsB k good = let s = cpu-and-lock-says n f good in ((s .0, s .2), rw (k, s .1, s .3, s .4))
-carries n Operation.Release f fitsA fitsB k good = let s = cpu-and-lock-says n f good in ((s .0, s .2), rw (k, s .1, s .3, s .4))
-carries n Operation.Mask f fitsA fitsB k good = let s = thread-and-masks-says n f good in ((s .1, fitsA, fitsB), rw (k, s .0, s .2))
-carries n Operation.Pin f fitsA fitsB k good = let s = cpu-and-thread-says n f good in ((s .0, s .1), rw (k, s .2, s .3, s .4))
-carries n Operation.Priority f fitsA fitsB k good =
-    let s = thread-and-priority-says n f good in
-    ((s .1, s .3), rw (from-to-signed 31 (f .a) fitsA .0, k, s .0, s .2, s .4))
-carries n Operation.Ipi f fitsA fitsB k good = let s = cpu-and-thread-says n f good in ((s .0, s .1), rw (k, s .2, s .3, s .4))
-carries n Operation.Owner f fitsA fitsB k good = let s = lock-alone-says n f good in (s .2, rw (k, s .0, s .1, s .3, s .4))
+decode-encode k r ok h =
+    packed-back (wire (r .operation) .0) (r .cpu .0) (r .thread .0) (r .lock .0) (wire (r .operation) .1) (wire (r .operation) .2) (h .cpu) (h .a) (h .b) k ok
+    ∙ rw (h .fit, asks-back (r .operation) (h .priority))
+
+-- A row's operation has the row's number, and the A and B that passed its form test.
+abbrev Wires : ℕ → ℕ → ℕ → Row → Type 0
+Wires a b op r = operandOk (r .a) a ≡ true → operandOk (r .b) b ≡ true → (r .asks a b ≡ Operation.Malformed → ⊥) → wire (r .asks a b) ≡ (op, a, b)
+
+module _ (a b : ℕ) (fitsA : a < 2 ^ 32) where
+  no-operands : (op : ℕ) {X : Type 0} → eqb a 0 ≡ true → eqb b 0 ≡ true → X → _≡_ {A = ℕ × ℕ × ℕ} (op, 0, 0) (op, a, b)
+  no-operands op e f x = rw (eqb-true a 0 e, eqb-true b 0 f)
+
+  one-priority : {X : Type 0} → isPriority (toSigned 31 a) ≡ true → eqb b 0 ≡ true → X
+      → _≡_ {A = ℕ × ℕ × ℕ} (9, fromSigned 31 (toSigned 31 a), 0) (9, a, b)
+  one-priority e f x = rw (from-to-signed 31 a fitsA .0, eqb-true b 0 f)
+
+  row-wires : (op : ℕ) → Wires a b op (rowOf op)
+  row-wires =
+      every-row (Wires a b) (λ i e f some. absurd (some refl)) (
+        no-operands 0,
+        (
+          no-operands 1,
+          (
+            no-operands 2,
+            (
+              no-operands 3,
+              (
+                no-operands 4,
+                (
+                  no-operands 5,
+                  (
+                    no-operands 6,
+                    ((λ e f x. refl), (no-operands 8, (one-priority, (no-operands 10, (no-operands 11, tt))))),
+                  ),
+                ),
+              ),
+            ),
+          ),
+        ),
+      )
 
 -- The first k elements, one after the other: all of a list of that length.
 abbrev firsts : ℕ → List ℕ → List ℕ
@@ -152,7 +171,8 @@ from-fields o t l z a₀ a₁ a₂ a₃ b₀ b₁ b₂ b₃ small e =
     let smallB : AreBytes wordB = four-bytes b₀ b₁ b₂ b₃ (small 8) (small 9) (small 10) (small 11) in
     let first : o ≡ o / 16 * 16 + o % 16 = omega arith in (
       ap₂ (λ (x y : ℕ). x ∷ t ∷ l ∷ y ∷ (wordA ++ wordB)) first e
-          ∙ ap₂ (λ (x y : List ℕ). (o / 16 * 16 + o % 16) ∷ t ∷ l ∷ 0 ∷ (x ++ y)) (sym (from-high-first-back wordA smallA)) (sym (from-high-first-back wordB smallB)),
+          ∙ ap₂ (λ (x y : List ℕ). (o / 16 * 16 + o % 16) ∷ t ∷ l ∷ 0 ∷ (x ++ y)) (sym (from-high-first-back wordA smallA))
+          (sym (from-high-first-back wordB smallB)),
       from-high-first-lt wordA smallA,
       from-high-first-lt wordB smallB,
     )
@@ -160,25 +180,55 @@ from-fields o t l z a₀ a₁ a₂ a₃ b₀ b₁ b₂ b₃ small e =
 twelve-from-fields : (bs : List ℕ) → length bs ≡ 12 → FromFields bs
 twelve-from-fields bs e = subst FromFields (sym (firsts-all 12 bs e)) (from-fields _ _ _ _ _ _ _ _ _ _ _ _)
 
+-- A CPU's number has four bits.
+cpu-small : (bs : List ℕ) → fieldsOf bs .cpu < 16
+unfolding fieldsOf
+cpu-small bs = omega arith
+
+-- What fields that pass their row's form test show of the request: a record can carry it, and its encoding has those fields.
+carries : (n : ℕ) (f : Fields) → f .cpu < 16 → f .a < 2 ^ 32 → f .b < 2 ^ 32 → fits n (rowOf (f .operation)) f ≡ true
+    → (rowOf (f .operation) .asks (f .a) (f .b) ≡ Operation.Malformed → ⊥) → priorityOk (rowOf (f .operation) .asks (f .a) (f .b)) ≡ true
+    → InRange n (carried (rowOf (f .operation)) f)
+    × (packed (f .operation) (f .cpu) (f .thread) (f .lock) (f .a) (f .b) ≡ encode (carried (rowOf (f .operation)) f))
+unfolding encode fits
+carries n f small fitsA fitsB good some sets =
+    let fit = fit-says n (rowOf (f .operation)) f good in
+    let same = sym (row-wires (f .a) (f .b) fitsA (f .operation) (fit .a) (fit .b) some) in (
+      record {
+        fit = subst (λ (x : ℕ × ℕ × ℕ). fits n (rowOf (x .0)) (fields (x .0) (f .cpu) (f .thread) (f .lock) (x .1) (x .2)) ≡ true) same good;
+        cpu = small;
+        priority = sets;
+        a = subst (λ (x : ℕ × ℕ × ℕ). x .1 < 2 ^ 32) same fitsA;
+        b = subst (λ (x : ℕ × ℕ × ℕ). x .2 < 2 ^ 32) same fitsB;
+      },
+      ap (λ (x : ℕ × ℕ × ℕ). packed (x .0) (f .cpu) (f .thread) (f .lock) (x .1) (x .2)) same,
+    )
+
 -- A record that is not malformed is the encoding of its request, whose numbers are in range.
 abbrev Encodes : ℕ → List ℕ → Request → Type 0
-Encodes n bs r = (r ≡ Request.Malformed → ⊥) → InRange n r × (bs ≡ encode r)
+Encodes n bs r = (r .operation ≡ Operation.Malformed → ⊥) → InRange n r × (bs ≡ encode r)
 
-record-encodes : (n : ℕ) (bs : List ℕ) → AreBytes bs → Encodes n bs (requestOf n bs)
+record-encodes : (k : Setup) (bs : List ℕ) → AreBytes bs → Encodes (k .n) bs (requestOf k bs)
 unfolding requestOf
-record-encodes n bs small =
+record-encodes k bs small =
     let f = fieldsOf bs in
-    let op = operationOf (f .operation) in
-    bool-ind (λ t. Encodes n bs (cond t (ofFields n f) Request.Malformed)) (eqb (length bs) 12)
-    (λ twelve. bool-ind (λ t. Encodes n bs (cond t (carried op f) Request.Malformed)) (eqb (f .zero) 0 && wellFormed n op f) (λ good _.
-    let from = twelve-from-fields bs (eqb-true _ _ twelve) small (eqb-true _ _ (and-left (eqb (f .zero) 0) _ good)) in
-    let c = carries n op f (from .1) (from .2) (numbered (f .operation)) (and-right (eqb (f .zero) 0) _ good) in
+    let r = rowOf (f .operation) in
+    bool-ind (λ t. Encodes (k .n) bs (cond t (ofFields (k .n) f) malformed)) (setupOk k && eqb (length bs) 12)
+    (λ sized. bool-ind (λ t. Encodes (k .n) bs (cond t (carried r f) malformed)) (eqb (f .zero) 0 && fits (k .n) r f) (λ good some.
+    let twelve = eqb-true (length bs) 12 (and-right (setupOk k) _ sized) in
+    let from = twelve-from-fields bs twelve small (eqb-true _ _ (and-left (eqb (f .zero) 0) _ good)) in
+    let fit = and-right (eqb (f .zero) 0) _ good in
+    let sets = row-priority (f .a) (f .b) (f .operation) (fit-says (k .n) r f fit .a) in
+    let c = carries (k .n) f (cpu-small bs) (from .1) (from .2) fit some sets in
     (c .0, from .0 ∙ c .1)) (λ _ some. absurd (some refl))) (λ _ some. absurd (some refl))
 
 -- An accepted record has one encoding: that of its request.
-pub one-encoding : (n : ℕ) (bs : List ℕ) (r : Request) → AreBytes bs → requestOf n bs ≡ r → (r ≡ Request.Malformed → ⊥) → bs ≡ encode r
-one-encoding n bs r small e some = record-encodes n bs small (λ m. some (sym e ∙ m)) .1 ∙ ap encode e
+pub one-encoding : (k : Setup) (bs : List ℕ) (r : Request) → AreBytes bs → requestOf k bs ≡ r → (r .operation ≡ Operation.Malformed → ⊥)
+    → bs ≡ encode r
+one-encoding k bs r small e some = record-encodes k bs small (λ m. some (ap (λ x. x .operation) (sym e) ∙ m)) .1 ∙ ap encode e
 
 -- The numbers of an accepted record's request are in range.
-pub decoded-in-range : (n : ℕ) (bs : List ℕ) (r : Request) → AreBytes bs → requestOf n bs ≡ r → (r ≡ Request.Malformed → ⊥) → InRange n r
-decoded-in-range n bs r small e some = subst (InRange n) e (record-encodes n bs small (λ m. some (sym e ∙ m)) .0)
+pub decoded-in-range : (k : Setup) (bs : List ℕ) (r : Request) → AreBytes bs → requestOf k bs ≡ r → (r .operation ≡ Operation.Malformed → ⊥)
+    → InRange (k .n) r
+decoded-in-range k bs r small e some =
+    subst (InRange (k .n)) e (record-encodes k bs small (λ m. some (ap (λ x. x .operation) (sym e) ∙ m)) .0)

@@ -1,5 +1,4 @@
+pub mod Table
 pub mod Cases
-pub mod FormTest
-pub mod Laws
 pub mod Range
-pub mod Priority
+pub mod Laws

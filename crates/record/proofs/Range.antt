@@ -1,75 +1,182 @@
--- A request's numbers are in range: whatever bytes it comes from, its CPU is below n, its thread below 32 and its lock below 128. The form test
--- of each operation says so. Assumes nothing.
-use mathlib.Core.Path.{_≡_, refl}
-use mathlib.Core.Bool.{Bool, true, _&&_, cond}
+-- A request's numbers are in range, whatever bytes it comes from: its CPU is below n, its thread below 32, its lock below 128, and a priority
+-- within -128..127. The form test says so of the fields that its row uses, and the others are zero. Assumes nothing.
+use mathlib.Core.Path.{_≡_, refl, sym, subst}
+use mathlib.Core.Bool.{Bool, true, false, _&&_, cond}
 use mathlib.Core.List.{List}
-use Prim.Native.Nat.{ℕ}
-use lib.Dec.{eqb, ltb}
+use Prim.Native.Nat.{ℕ, _≤_, _<_}
+use native.Mathlib.Nat.{lt-of-lt-of-le}
+use native.Mathlib.Omega.{arith}
+use lib.Dec.{eqb, leb}
 use lib.ListN.{length}
-use Rattle.words.proofs.Choice.{bool-ind, and-right}
-use borrow.Author.Tests.{lt-ltb}
-use Rattle.record.proofs.FormTest.{cpu-alone-says, cpu-and-thread-says, cpu-and-lock-says, thread-and-masks-says, thread-and-priority-says, lock-alone-says}
-use Rattle.machine.specs.State.{threadCount, lockCount}
-use Rattle.record.specs.Record.{requestOf, ofFields, wellFormed, carried, operationOf, fieldsOf, cpuAlone, cpuAndThread, cpuAndLock, threadAndMasks, threadAndPriority, lockAlone}
+use borrow.Author.Tests.{ltb-true, leb-true}
+use Rattle.words.proofs.Choice.{bool-ind, and-left, and-right}
+use Rattle.machine.specs.State.{cpuSlots, threadCount, lockCount, setupOk, isPriority}
+use Rattle.machine.specs.declared.Setup.{Setup}
+use Rattle.record.specs.Record.{
+  Row,
+  rows,
+  noRow,
+  rowOf,
+  fieldOk,
+  operandOk,
+  fits,
+  malformed,
+  InArrays,
+  carried,
+  ofFields,
+  requestOf,
+  fieldsOf,
+}
 use Rattle.record.specs.declared.Fields.{Fields}
+use Rattle.record.specs.declared.ThreadOperation.{ThreadOperation}
 use Rattle.record.specs.declared.Operation.{Operation}
 use Rattle.record.specs.declared.Request.{Request}
+use Rattle.record.proofs.Table.{past-row, every-row}
 
--- Every number of a request is in range, for n CPUs.
-abbrev pub inRange : ℕ → Request → Bool
-inRange n Request.Malformed = true
-inRange n (Request.Up c) = ltb (c .0) n
-inRange n (Request.Down c) = ltb (c .0) n
-inRange n (Request.Put c t) = ltb (c .0) n && ltb (t .0) threadCount
-inRange n (Request.Take c t) = ltb (c .0) n && ltb (t .0) threadCount
-inRange n (Request.Acquire c l) = ltb (c .0) n && ltb (l .0) lockCount
-inRange n (Request.Nested c l) = ltb (c .0) n && ltb (l .0) lockCount
-inRange n (Request.Release c l) = ltb (c .0) n && ltb (l .0) lockCount
-inRange n (Request.Mask t enable disable) = ltb (t .0) threadCount
-inRange n (Request.Pin t c) = ltb (c .0) n && ltb (t .0) threadCount
-inRange n (Request.Priority t a) = ltb (t .0) threadCount
-inRange n (Request.Ipi c t) = ltb (c .0) n && ltb (t .0) threadCount
-inRange n (Request.Owner l) = ltb (l .0) lockCount
+-- What the form test says, field by field.
+pub record Fit (n : ℕ) (r : Row) (f : Fields) : Type 0 where
+  pub cpu : fieldOk (r .cpu) n (f .cpu) ≡ true
+  pub thread : fieldOk (r .thread) threadCount (f .thread) ≡ true
+  pub lock : fieldOk (r .lock) lockCount (f .lock) ≡ true
+  pub a : operandOk (r .a) (f .a) ≡ true
+  pub b : operandOk (r .b) (f .b) ≡ true
 
-module _ (n : ℕ) (f : Fields) where
-  cpu-only : cpuAlone n f ≡ true → ltb (f .cpu) n ≡ true
-  cpu-only e = lt-ltb (f .cpu) n (cpu-alone-says n f e .0)
+pub fit-says : (n : ℕ) (r : Row) (f : Fields) → fits n r f ≡ true → Fit n r f
+unfolding fits
+fit-says n r f e =
+    let c = fieldOk (r .cpu) n (f .cpu) in
+    let t = fieldOk (r .thread) threadCount (f .thread) in
+    let l = fieldOk (r .lock) lockCount (f .lock) in
+    let a = operandOk (r .a) (f .a) in
+    let b = operandOk (r .b) (f .b) in
+    let four = and-left (c && t && l && a) b e in
+    let three = and-left (c && t && l) a four in
+    let two = and-left (c && t) l three in
+    record {
+      cpu = and-left c t two;
+      thread = and-right c t two;
+      lock = and-right (c && t) l three;
+      a = and-right (c && t && l) a four;
+      b = and-right (c && t && l && a) b e;
+    }
 
-  cpu-thread : cpuAndThread n f ≡ true → ltb (f .cpu) n && ltb (f .thread) threadCount ≡ true
-  cpu-thread e = let s = cpu-and-thread-says n f e in rw (lt-ltb (f .cpu) n (s .0), lt-ltb (f .thread) threadCount (s .1))
+-- The numbers of a request, on a machine of setup k.
+pub record Ranged (k : Setup) (r : Request) : Type 0 where
+  pub cpu : r .cpu .0 < k .n
+  pub thread : r .thread .0 < threadCount
+  pub lock : r .lock .0 < lockCount
 
-  cpu-lock : cpuAndLock n f ≡ true → ltb (f .cpu) n && ltb (f .lock) lockCount ≡ true
-  cpu-lock e = let s = cpu-and-lock-says n f e in rw (lt-ltb (f .cpu) n (s .0), lt-ltb (f .lock) lockCount (s .2))
+below : (used : Bool) (most x : ℕ) → 0 < most → fieldOk used most x ≡ true → x < most
+below true most x some e = ltb-true x most e
+below false most x some e = omega (arith, ltb-true x 1 e)
 
-  mask-thread : threadAndMasks f ≡ true → ltb (f .thread) threadCount ≡ true
-  mask-thread e = lt-ltb (f .thread) threadCount (thread-and-masks-says n f e .1)
+-- Past the table every field has to be zero, and what that gives is malformed too.
+unused : (most x : ℕ) → fieldOk false most x ≡ true → x ≡ 0
+unused most x e = omega (arith, ltb-true x 1 e)
 
-  priority-thread : threadAndPriority f ≡ true → ltb (f .thread) threadCount ≡ true
-  priority-thread e = lt-ltb (f .thread) threadCount (thread-and-priority-says n f e .1)
+pub no-row : (n : ℕ) (f : Fields) → length rows ≤ f .operation
+    → malformed ≡ cond (fits n (rowOf (f .operation)) f) (carried (rowOf (f .operation)) f) malformed
+no-row n f past =
+    subst (λ (r : Row). malformed ≡ cond (fits n r f) (carried r f) malformed) (sym (past-row (f .operation) past))
+    (bool-ind (λ t. malformed ≡ cond t (carried noRow f) malformed) (fits n noRow f)
+    (λ e.
+    let fit = fit-says n noRow f e in
+    rw (unused n (f .cpu) (fit .cpu), unused threadCount (f .thread) (fit .thread), unused lockCount (f .lock) (fit .lock))) (λ _. refl))
 
-  lock-only : lockAlone f ≡ true → ltb (f .lock) lockCount ≡ true
-  lock-only e = lt-ltb (f .lock) lockCount (lock-alone-says n f e .2)
-
-  carried-in-range : (op : Operation) → wellFormed n op f ≡ true → inRange n (carried op f) ≡ true
-  carried-in-range Operation.Unnamed e = refl
-  carried-in-range Operation.Up e = cpu-only e
-  carried-in-range Operation.Down e = cpu-only e
-  carried-in-range Operation.Put e = cpu-thread e
-  carried-in-range Operation.Take e = cpu-thread e
-  carried-in-range Operation.Acquire e = cpu-lock e
-  carried-in-range Operation.Nested e = cpu-lock e
-  carried-in-range Operation.Release e = cpu-lock e
-  carried-in-range Operation.Mask e = mask-thread e
-  carried-in-range Operation.Pin e = cpu-thread e
-  carried-in-range Operation.Priority e = priority-thread e
-  carried-in-range Operation.Ipi e = cpu-thread e
-  carried-in-range Operation.Owner e = lock-only e
-
-pub request-in-range : (n : ℕ) (bs : List ℕ) → inRange n (requestOf n bs) ≡ true
+-- What holds of a malformed request, and of each that its row carries, holds of the request in every record.
+pub by-form : (P : Request → Type 0) (k : Setup) (bs : List ℕ) → P malformed
+    → (setupOk k ≡ true → fits (k .n) (rowOf (fieldsOf bs .operation)) (fieldsOf bs) ≡ true → P (carried (rowOf (fieldsOf bs .operation)) (fieldsOf bs)))
+    → P (requestOf k bs)
 unfolding requestOf
-request-in-range n bs =
+by-form P k bs bad good =
     let f = fieldsOf bs in
-    let op = operationOf (f .operation) in
-    bool-ind (λ b. inRange n (cond b (ofFields n f) Request.Malformed) ≡ true) (eqb (length bs) 12) (λ _.
-    bool-ind (λ b. inRange n (cond b (carried op f) Request.Malformed) ≡ true) (eqb (f .zero) 0 && wellFormed n op f)
-    (λ good. carried-in-range n f op (and-right (eqb (f .zero) 0) _ good)) (λ _. refl)) (λ _. refl)
+    let r = rowOf (f .operation) in
+    bool-ind (λ b. P (cond b (ofFields (k .n) f) malformed)) (setupOk k && eqb (length bs) 12)
+    (λ sized. bool-ind (λ b. P (cond b (carried r f) malformed)) (eqb (f .zero) 0 && fits (k .n) r f)
+    (λ e. good (and-left (setupOk k) _ sized) (and-right (eqb (f .zero) 0) _ e)) (λ _. bad)) (λ _. bad)
+
+pub request-ranged : (k : Setup) → setupOk k ≡ true → (bs : List ℕ) → Ranged k (requestOf k bs)
+request-ranged k ok bs =
+    by-form (Ranged k) k bs (record { cpu = some; thread = omega arith; lock = omega arith }) (λ _ e.
+    let f = fieldsOf bs in
+    let r = rowOf (f .operation) in
+    let fit = fit-says (k .n) r f e in
+    record {
+      cpu = below (r .cpu) (k .n) (f .cpu) some (fit .cpu);
+      thread = below (r .thread) threadCount (f .thread) (omega arith) (fit .thread);
+      lock = below (r .lock) lockCount (f .lock) (omega arith) (fit .lock);
+    })
+  where
+    some : 0 < k .n
+    some = leb-true 1 (k .n) (and-left (leb 1 (k .n)) _ ok)
+
+-- So they are places in a machine's arrays, on whatever setup.
+pub request-in-arrays : (k : Setup) (bs : List ℕ) → InArrays (requestOf k bs)
+request-in-arrays k bs =
+    by-form InArrays k bs (record { cpu = omega arith; thread = omega arith; lock = omega arith }) (λ ok e.
+    let f = fieldsOf bs in
+    let r = rowOf (f .operation) in
+    let fit = fit-says (k .n) r f e in
+    let some = leb-true 1 (k .n) (and-left (leb 1 (k .n)) _ ok) in
+    let few = leb-true (k .n) cpuSlots (and-right (leb 1 (k .n)) _ ok) in
+    record {
+      cpu = lt-of-lt-of-le (below (r .cpu) (k .n) (f .cpu) some (fit .cpu)) few;
+      thread = below (r .thread) threadCount (f .thread) (omega arith) (fit .thread);
+      lock = below (r .lock) lockCount (f .lock) (omega arith) (fit .lock);
+    })
+
+-- The equation of a request says its places too.
+pub in-arrays-by : {r : Request} (k : Setup) (bs : List ℕ) → r ≡ requestOf k bs → (r ≡ requestOf k bs) × InArrays r
+in-arrays-by k bs e = (e, subst InArrays (sym e) (request-in-arrays k bs))
+
+-- The priority that an operation sets, if it sets one, is within -128..127.
+abbrev pub priorityOk : Operation → Bool
+priorityOk Operation.Malformed = true
+priorityOk (Operation.OnCpu o) = true
+priorityOk (Operation.OnLock o) = true
+priorityOk (Operation.OnThread (ThreadOperation.Mask enable disable)) = true
+priorityOk (Operation.OnThread ThreadOperation.Pin) = true
+priorityOk (Operation.OnThread (ThreadOperation.Priority p)) = isPriority p
+priorityOk Operation.Ipi = true
+priorityOk Operation.Owner = true
+
+-- So it is for each row whose A passes the form test.
+pub row-priority : (a b op : ℕ) → operandOk (rowOf op .a) a ≡ true → priorityOk (rowOf op .asks a b) ≡ true
+row-priority a b =
+    every-row (λ i r. operandOk (r .a) a ≡ true → priorityOk (r .asks a b) ≡ true) (λ i e. refl) (
+      sets-none,
+      (
+        sets-none,
+        (
+          sets-none,
+          (
+            sets-none,
+            (
+              sets-none,
+              (
+                sets-none,
+                (
+                  sets-none,
+                  (
+                    sets-none,
+                    (
+                      sets-none,
+                      ((λ e. e), (sets-none, (sets-none, tt))),
+                    ),
+                  ),
+                ),
+              ),
+            ),
+          ),
+        ),
+      ),
+    )
+  where
+    sets-none : {A : Type 0} → A → true ≡ true
+    sets-none e = refl
+
+pub request-priority : (k : Setup) (bs : List ℕ) → priorityOk (requestOf k bs .operation) ≡ true
+request-priority k bs =
+    by-form (λ r. priorityOk (r .operation) ≡ true) k bs refl (λ _ e.
+    let f = fieldsOf bs in
+    row-priority (f .a) (f .b) (f .operation) (fit-says (k .n) (rowOf (f .operation)) f e .a))

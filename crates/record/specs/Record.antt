@@ -1,18 +1,20 @@
 -- 01, "Log records": the twelve bytes of a record, the form test, and the request that they carry.
-use Prim.Native.Nat.{ℕ, _+_, _*_, _/_, _%_}
-use mathlib.Core.Bool.{Bool, false, _&&_, cond}
+use Prim.Native.Nat.{ℕ, _+_, _*_, _/_, _%_, _<_}
+use mathlib.Core.Bool.{Bool, true, false, _&&_, cond}
 use mathlib.Core.List.{List, [], _∷_, _++_}
 use lib.Dec.{eqb, ltb}
-use lib.IntN.{ℤ, pos, negℤ}
-use lib.Signed.{leZ}
 use lib.ListN.{length, getD, take, drop}
 use Rattle.words.specs.HighFirst.{highFirst, fromHighFirst}
 use Rattle.words.specs.Signed.{toSigned, fromSigned}
-use Rattle.machine.specs.State.{threadCount, lockCount}
+use Rattle.spinlock.specs.declared.Operation.{Operation as LockOperation}
+use Rattle.machine.specs.State.{cpuSlots, threadCount, lockCount, setupOk, isPriority}
+use Rattle.machine.specs.declared.Setup.{Setup}
 use Rattle.machine.specs.declared.CpuId.{CpuId}
 use Rattle.machine.specs.declared.ThreadId.{ThreadId}
 use Rattle.machine.specs.declared.LockId.{LockId}
 use Rattle.record.specs.declared.Fields.{Fields}
+use Rattle.record.specs.declared.CpuOperation.{CpuOperation}
+use Rattle.record.specs.declared.ThreadOperation.{ThreadOperation}
 use Rattle.record.specs.declared.Operation.{Operation}
 use Rattle.record.specs.declared.Request.{Request}
 
@@ -29,116 +31,126 @@ fieldsOf bs =
       b = fromHighFirst (take 4 (drop 8 bs));
     }
 
+-- What A or B may be: zero alone, any mask, or a priority in two's complement.
+pub data Operand : Type 0 where
+  none mask priority : Operand
+
+-- A row of the table: which of cpu, thread and lock an operation uses, what A and B may be, and what it asks for with them.
+pub record Row : Type 0 where
+  pub cpu : Bool
+  pub thread : Bool
+  pub lock : Bool
+  pub a : Operand
+  pub b : Operand
+  pub asks : ℕ → ℕ → Operation
+
+-- A row, its parts in that order.
+abbrev row : Bool → Bool → Bool → Operand → Operand → (ℕ → ℕ → Operation) → Row
+row cpu thread lock a b asks = record { cpu = cpu; thread = thread; lock = lock; a = a; b = b; asks = asks }
+
 -- The table's operations, 0 to 11.
-unfoldable pub operationOf : ℕ → Operation
-operationOf op =
-    cond (eqb op 0) Operation.Up
-    (cond (eqb op 1) Operation.Down
-    (cond (eqb op 2) Operation.Put
-    (cond (eqb op 3) Operation.Take
-    (cond (eqb op 4) Operation.Acquire
-    (cond (eqb op 5) Operation.Nested
-    (cond (eqb op 6) Operation.Release
-    (cond (eqb op 7) Operation.Mask
-    (cond (eqb op 8) Operation.Pin
-    (cond (eqb op 9) Operation.Priority
-    (cond (eqb op 10) Operation.Ipi
-    (cond (eqb op 11) Operation.Owner Operation.Unnamed)))))))))))
+abbrev pub rows : List Row
+rows =
+    row true false false none none (λ a b. Operation.OnCpu CpuOperation.Up)
+    ∷ row true false false none none (λ a b. Operation.OnCpu CpuOperation.Down)
+    ∷ row true true false none none (λ a b. Operation.OnCpu CpuOperation.Put)
+    ∷ row true true false none none (λ a b. Operation.OnCpu CpuOperation.Take)
+    ∷ row true false true none none (λ a b. Operation.OnLock LockOperation.Acquire)
+    ∷ row true false true none none (λ a b. Operation.OnLock LockOperation.Nested)
+    ∷ row true false true none none (λ a b. Operation.OnLock LockOperation.Release)
+    ∷ row false true false mask mask (λ a b. Operation.OnThread (ThreadOperation.Mask a b))
+    ∷ row true true false none none (λ a b. Operation.OnThread ThreadOperation.Pin)
+    ∷ row false true false priority none (λ a b. Operation.OnThread (ThreadOperation.Priority (toSigned 31 a)))
+    ∷ row true true false none none (λ a b. Operation.Ipi)
+    ∷ row false false true none none (λ a b. Operation.Owner)
+    ∷ []
 
--- Within -128..127.
-unfoldable pub isPriority : ℤ → Bool
-isPriority p = leZ (negℤ (pos 128)) p && leZ p (pos 127)
+-- Past the table stands no operation.
+abbrev pub noRow : Row
+noRow = row false false false none none (λ a b. Operation.Malformed)
 
--- Used fields in range (cpu below n, thread below 32, lock below 128), all else zero. Used: cpu.
-unfoldable pub cpuAlone : ℕ → Fields → Bool
-cpuAlone n f = ltb (f .cpu) n && eqb (f .thread) 0 && eqb (f .lock) 0 && eqb (f .a) 0 && eqb (f .b) 0
+-- The row of an operation's number.
+unfoldable pub rowOf : ℕ → Row
+rowOf number = getD rows number noRow
 
--- Used: cpu and thread.
-unfoldable pub cpuAndThread : ℕ → Fields → Bool
-cpuAndThread n f = ltb (f .cpu) n && ltb (f .thread) threadCount && eqb (f .lock) 0 && eqb (f .a) 0 && eqb (f .b) 0
+-- A used field is below its limit, and one that is not used is zero.
+abbrev pub fieldOk : Bool → ℕ → ℕ → Bool
+fieldOk used most x = ltb x (cond used most 1)
 
--- Used: cpu and lock.
-unfoldable pub cpuAndLock : ℕ → Fields → Bool
-cpuAndLock n f = ltb (f .cpu) n && eqb (f .thread) 0 && ltb (f .lock) lockCount && eqb (f .a) 0 && eqb (f .b) 0
+-- A or B is what the row says.
+abbrev pub operandOk : Operand → ℕ → Bool
+operandOk none x = eqb x 0
+operandOk mask x = true
+operandOk priority x = isPriority (toSigned 31 x)
 
--- Used: thread, and A and B as masks.
-unfoldable pub threadAndMasks : Fields → Bool
-threadAndMasks f = eqb (f .cpu) 0 && ltb (f .thread) threadCount && eqb (f .lock) 0
+-- Used fields in range (cpu below n, thread below 32, lock below 128, A of a priority within -128..127), all else zero.
+unfoldable pub fits : ℕ → Row → Fields → Bool
+fits n r f =
+    fieldOk (r .cpu) n (f .cpu)
+    && fieldOk (r .thread) threadCount (f .thread)
+    && fieldOk (r .lock) lockCount (f .lock)
+    && operandOk (r .a) (f .a)
+    && operandOk (r .b) (f .b)
 
--- Used: thread, and A as a priority in two's complement.
-unfoldable pub threadAndPriority : Fields → Bool
-threadAndPriority f = eqb (f .cpu) 0 && ltb (f .thread) threadCount && eqb (f .lock) 0 && isPriority (toSigned 31 (f .a)) && eqb (f .b) 0
-
--- Used: lock.
-unfoldable pub lockAlone : Fields → Bool
-lockAlone f = eqb (f .cpu) 0 && eqb (f .thread) 0 && ltb (f .lock) lockCount && eqb (f .a) 0 && eqb (f .b) 0
-
--- Which fields each operation uses.
-abbrev pub wellFormed : ℕ → Operation → Fields → Bool
-wellFormed n Operation.Unnamed f = false
-wellFormed n Operation.Up f = cpuAlone n f
-wellFormed n Operation.Down f = cpuAlone n f
-wellFormed n Operation.Put f = cpuAndThread n f
-wellFormed n Operation.Take f = cpuAndThread n f
-wellFormed n Operation.Acquire f = cpuAndLock n f
-wellFormed n Operation.Nested f = cpuAndLock n f
-wellFormed n Operation.Release f = cpuAndLock n f
-wellFormed n Operation.Mask f = threadAndMasks f
-wellFormed n Operation.Pin f = cpuAndThread n f
-wellFormed n Operation.Priority f = threadAndPriority f
-wellFormed n Operation.Ipi f = cpuAndThread n f
-wellFormed n Operation.Owner f = lockAlone f
-
--- The number kinds of a record's fields.
+-- The number kinds of a record's fields: a CPU's.
 abbrev pub cpuId : ℕ → CpuId
 cpuId c = record { 0 = c }
 
+-- A thread's.
 abbrev pub threadId : ℕ → ThreadId
 threadId t = record { 0 = t }
 
+-- A lock's.
 abbrev pub lockId : ℕ → LockId
 lockId l = record { 0 = l }
 
--- The request that an operation makes of its fields.
-abbrev pub carried : Operation → Fields → Request
-carried Operation.Unnamed f = Request.Malformed
-carried Operation.Up f = Request.Up (cpuId (f .cpu))
-carried Operation.Down f = Request.Down (cpuId (f .cpu))
-carried Operation.Put f = Request.Put (cpuId (f .cpu)) (threadId (f .thread))
-carried Operation.Take f = Request.Take (cpuId (f .cpu)) (threadId (f .thread))
-carried Operation.Acquire f = Request.Acquire (cpuId (f .cpu)) (lockId (f .lock))
-carried Operation.Nested f = Request.Nested (cpuId (f .cpu)) (lockId (f .lock))
-carried Operation.Release f = Request.Release (cpuId (f .cpu)) (lockId (f .lock))
-carried Operation.Mask f = Request.Mask (threadId (f .thread)) (f .a) (f .b)
-carried Operation.Pin f = Request.Pin (threadId (f .thread)) (cpuId (f .cpu))
-carried Operation.Priority f = Request.Priority (threadId (f .thread)) (toSigned 31 (f .a))
-carried Operation.Ipi f = Request.Ipi (cpuId (f .cpu)) (threadId (f .thread))
-carried Operation.Owner f = Request.Owner (lockId (f .lock))
+-- An operation with its numbers.
+abbrev pub request : Operation → ℕ → ℕ → ℕ → Request
+request operation c t l = record { operation = operation; cpu = cpuId c; thread = threadId t; lock = lockId l }
+
+-- Every number of a request is a place in its array of the machine.
+pub record InArrays (r : Request) : Type 0 where
+  pub cpu : r .cpu .0 < cpuSlots
+  pub thread : r .thread .0 < threadCount
+  pub lock : r .lock .0 < lockCount
+
+-- What fails the form test.
+abbrev pub malformed : Request
+malformed = request Operation.Malformed 0 0 0
+
+-- The request that a row makes of the fields.
+abbrev pub carried : Row → Fields → Request
+carried r f = request (r .asks (f .a) (f .b)) (f .cpu) (f .thread) (f .lock)
 
 -- A record of that form carries its request; any other is malformed.
 abbrev pub ofFields : ℕ → Fields → Request
-ofFields n f = cond (eqb (f .zero) 0 && wellFormed n (operationOf (f .operation)) f) (carried (operationOf (f .operation)) f) Request.Malformed
+ofFields n f = cond (eqb (f .zero) 0 && fits n (rowOf (f .operation)) f) (carried (rowOf (f .operation)) f) malformed
 
--- Exactly twelve bytes.
-unfoldable pub requestOf : ℕ → List ℕ → Request
-requestOf n bs = cond (eqb (length bs) 12) (ofFields n (fieldsOf bs)) Request.Malformed
+-- Exactly twelve bytes, on a setup that a machine can have.
+unfoldable pub requestOf : Setup → List ℕ → Request
+requestOf k bs = cond (setupOk k && eqb (length bs) 12) (ofFields (k .n) (fieldsOf bs)) malformed
 
 -- The twelve bytes of these fields.
 abbrev pub packed : ℕ → ℕ → ℕ → ℕ → ℕ → ℕ → List ℕ
 packed op cpu thread lock a b = ((op * 16 + cpu) ∷ thread ∷ lock ∷ 0 ∷ []) ++ (highFirst 4 a ++ highFirst 4 b)
 
--- The one record that asks for a request. No record asks for a malformed one.
+-- The number, A and B of an operation. What is malformed has the first number that has no row.
+abbrev pub wire : Operation → ℕ × ℕ × ℕ
+wire Operation.Malformed = (length rows, 0, 0)
+wire (Operation.OnCpu CpuOperation.Up) = (0, 0, 0)
+wire (Operation.OnCpu CpuOperation.Down) = (1, 0, 0)
+wire (Operation.OnCpu CpuOperation.Put) = (2, 0, 0)
+wire (Operation.OnCpu CpuOperation.Take) = (3, 0, 0)
+wire (Operation.OnLock LockOperation.Acquire) = (4, 0, 0)
+wire (Operation.OnLock LockOperation.Nested) = (5, 0, 0)
+wire (Operation.OnLock LockOperation.Release) = (6, 0, 0)
+wire (Operation.OnThread (ThreadOperation.Mask enable disable)) = (7, enable, disable)
+wire (Operation.OnThread ThreadOperation.Pin) = (8, 0, 0)
+wire (Operation.OnThread (ThreadOperation.Priority p)) = (9, fromSigned 31 p, 0)
+wire Operation.Ipi = (10, 0, 0)
+wire Operation.Owner = (11, 0, 0)
+
+-- The one record that asks for a request.
 unfoldable pub encode : Request → List ℕ
-encode Request.Malformed = []
-encode (Request.Up c) = packed 0 (c .0) 0 0 0 0
-encode (Request.Down c) = packed 1 (c .0) 0 0 0 0
-encode (Request.Put c t) = packed 2 (c .0) (t .0) 0 0 0
-encode (Request.Take c t) = packed 3 (c .0) (t .0) 0 0 0
-encode (Request.Acquire c l) = packed 4 (c .0) 0 (l .0) 0 0
-encode (Request.Nested c l) = packed 5 (c .0) 0 (l .0) 0 0
-encode (Request.Release c l) = packed 6 (c .0) 0 (l .0) 0 0
-encode (Request.Mask t enable disable) = packed 7 0 (t .0) 0 enable disable
-encode (Request.Pin t c) = packed 8 (c .0) (t .0) 0 0 0
-encode (Request.Priority t p) = packed 9 0 (t .0) 0 (fromSigned 31 p) 0
-encode (Request.Ipi c t) = packed 10 (c .0) (t .0) 0 0 0
-encode (Request.Owner l) = packed 11 0 0 (l .0) 0 0
+encode r =
+    packed (wire (r .operation) .0) (r .cpu .0) (r .thread .0) (r .lock .0) (wire (r .operation) .1) (wire (r .operation) .2)

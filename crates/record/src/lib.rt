@@ -1,76 +1,80 @@
-// The records of a log: twelve bytes become a request, and an answer becomes eight bytes.
+// The records of a log: twelve bytes become a request.
 //
-// New here: upstream has no log. Document 01, "Log records": the form test, the fields that each operation uses, and the layout of an
-// answer. A caller can rely on these: a request that is not `Malformed` has every number in range, and one encoding (proofs/Laws.antt).
+// New here: upstream has no log. Document 01, "Log records": the form test and the fields that each operation uses. A caller can rely on
+// these: every number of a request is in range (proofs/Range.antt), and one that is not `Malformed` has one encoding (proofs/Laws.antt).
 ghost use mathlib.Core.Path.{_≡_};
-ghost use Prim.Native.Nat.{_+_, _≤_};
-ghost use mathlib.Core.List.{[], _∷_};
+ghost use mathlib.Core.Bool.{cond};
+ghost use Prim.Native.Nat.{_+_, _<_, _≤_};
 ghost use lib.ListN.{length, take, drop};
-ghost use Rattle.error.specs.Codes.{numberOf};
 ghost use Rattle.words.specs.HighFirst.{fromHighFirst};
-ghost use Rattle.words.specs.Signed.{toSigned, fromSigned};
+ghost use Rattle.words.specs.Bit.{bit};
 ghost use Rattle.record.specs.Record.{
   fieldsOf,
-  operationOf,
-  isPriority as Record·isPriority,
-  cpuAlone,
-  cpuAndThread,
-  cpuAndLock,
-  threadAndMasks,
-  threadAndPriority,
-  lockAlone,
-  wellFormed,
+  operandOk,
+  rowOf,
+  fits as Record·fits,
+  request,
   carried as Record·carried,
+  malformed as Record·malformed,
+  InArrays,
   requestOf,
 };
-ghost use Rattle.record.specs.Answer.{answerBytes, written};
-use error::Code;
 use machine::CpuId;
+use machine::LOCKS;
 use machine::LockId;
+use machine::Setup;
+use machine::THREADS;
 use machine::ThreadId;
 
-// How many bytes a record and an answer have.
+// How many bytes a record has.
 pub const RECORD_BYTES: usize = 12;
 
-pub const ANSWER_BYTES: usize = 8;
-
-// What a record asks for.
-pub enum Request {
-    Malformed,
-    Up(CpuId),
-    Down(CpuId),
-    Put(CpuId, ThreadId),
-    Take(CpuId, ThreadId),
-    Acquire(CpuId, LockId),
-    Nested(CpuId, LockId),
-    Release(CpuId, LockId),
-    Mask {
-        thread: ThreadId,
-        enable: u32,
-        disable: u32,
-    },
-    Pin(ThreadId, CpuId),
-    Priority(ThreadId, i32),
-    Ipi(CpuId, ThreadId),
-    Owner(LockId),
-}
-
-// The operations by name. Numbers above 11 have none.
-enum Operation {
-    Unnamed,
+// What a record asks of a CPU.
+pub enum CpuOperation {
     Up,
     Down,
     Put,
     Take,
-    Acquire,
-    Nested,
-    Release,
-    Mask,
+}
+
+// What a record asks of a thread. A pin leaves the bit of the request's CPU.
+pub enum ThreadOperation {
+    Mask { enable: u32, disable: u32 },
     Pin,
-    Priority,
+    Priority(i32),
+}
+
+// What a record asks for: the operations in families, by what they change.
+pub enum Operation {
+    Malformed,
+    OnCpu(CpuOperation),
+    OnLock(spinlock::Operation),
+    OnThread(ThreadOperation),
     Ipi,
     Owner,
 }
+
+// An operation with the numbers that it uses. A number that it does not use is 0.
+pub struct Request {
+    pub operation: Operation,
+    pub cpu: CpuId,
+    pub thread: ThreadId,
+    pub lock: LockId,
+}
+
+// Which operations use which fields, a column of the table for each field: bit i stands for operation i. One rule ties the columns to the
+// rows of the table (proofs/Table.antt).
+const USES_CPU: u32 = 0x57f;
+
+const USES_THREAD: u32 = 0x78c;
+
+const USES_LOCK: u32 = 0x870;
+
+const A_IS_MASK: u32 = 0x080;
+
+const A_IS_PRIORITY: u32 = 0x200;
+
+const B_IS_MASK: u32 = 0x080;
 
 // The fields of twelve bytes, before any test.
 struct Fields {
@@ -83,19 +87,12 @@ struct Fields {
     b: u32,
 }
 
-// Four bytes as a number, high byte first.
-pub fn join(a: u8, b: u8, c: u8, d: u8) -> u32
-    ensures { λ r. ⌜ r ≡ fromHighFirst (a ∷ b ∷ c ∷ d ∷ []) ⌝ }
-{
-    (((a as u32) * 256 + (b as u32)) * 256 + (c as u32)) * 256 + (d as u32)
-}
-
 // The number in the four bytes from a place on.
 fn word_at(bytes: &[u8], at: usize) -> u32
     requires { ⌜ at + 4 ≤ length (now bytes) ⌝ }
     ensures { λ r. ⌜ r ≡ fromHighFirst (take 4 (drop at (now (bytes .entry)))) ⌝ }
 {
-    join(bytes[at], bytes[at + 1], bytes[at + 2], bytes[at + 3])
+    high_first::join(bytes[at], bytes[at + 1], bytes[at + 2], bytes[at + 3])
 }
 
 // The fields of a record.
@@ -121,190 +118,129 @@ fn fields_of(bytes: &[u8]) -> Fields
     }
 }
 
-// The name of an operation's number.
-fn operation_of(number: u32) -> Operation
-    ensures { λ r. ⌜ r ≡ operationOf number ⌝ }
+// Whether a column has an operation.
+fn uses(column: u32, operation: u32) -> bool
+    requires { ⌜ operation < 16 ⌝ }
+    ensures { λ r. ⌜ r ≡ bit operation column ⌝ }
 {
-    match number {
-        0 => Operation::Up,
-        1 => Operation::Down,
-        2 => Operation::Put,
-        3 => Operation::Take,
-        4 => Operation::Acquire,
-        5 => Operation::Nested,
-        6 => Operation::Release,
-        7 => Operation::Mask,
-        8 => Operation::Pin,
-        9 => Operation::Priority,
-        10 => Operation::Ipi,
-        11 => Operation::Owner,
-        _ => Operation::Unnamed,
-    }
+    (column >> operation) % 2 == 1
 }
 
-// The number that 32 bits stand for.
-pub fn signed(bits: u32) -> i32
-    ensures { λ r. ⌜ r ≡ toSigned 31 bits ⌝ }
+// What a field stays below: the given number if the operation uses it, else 1.
+fn limit(column: u32, operation: u32, most: u32) -> u32
+    requires { ⌜ operation < 16 ⌝ }
+    ensures { λ r. ⌜ r ≡ cond (bit operation column) most 1 ⌝ }
 {
-    if bits < 0x8000_0000 {
-        bits as i32
-    } else {
-        -1 - ((0xffff_ffff - bits) as i32)
-    }
+    if uses(column, operation) { most } else { 1 }
 }
 
-// Whether 32 bits stand for a number within -128..127: the first 128 numbers and the last.
-fn is_priority(bits: u32) -> bool
-    ensures { λ r. ⌜ r ≡ Record·isPriority (toSigned 31 bits) ⌝ }
+// Whether A is what the operation takes.
+fn a_fits(operation: u32, a: u32) -> bool
+    requires { ⌜ operation < 16 ⌝ }
+    ensures { λ r. ⌜ r ≡ operandOk (rowOf operation .a) a ⌝ }
 {
-    if bits < 128 {
-        return true;
-    }
-    bits >= 0xffff_ff80
+    let priority = uses(A_IS_PRIORITY, operation) & machine::is_priority(high_first::signed(a));
+    (a == 0) | uses(A_IS_MASK, operation) | priority
 }
 
-// Used: cpu.
-fn cpu_alone(n: u32, f: Fields) -> bool
-    ensures { λ r. ⌜ r ≡ cpuAlone n f ⌝ }
+// Whether B is what the operation takes.
+fn b_fits(operation: u32, b: u32) -> bool
+    requires { ⌜ operation < 16 ⌝ }
+    ensures { λ r. ⌜ r ≡ operandOk (rowOf operation .b) b ⌝ }
 {
-    (f.cpu < n) & (f.thread == 0) & (f.lock == 0) & (f.a == 0) & (f.b == 0)
-}
-
-// Used: cpu and thread.
-fn cpu_and_thread(n: u32, f: Fields) -> bool
-    ensures { λ r. ⌜ r ≡ cpuAndThread n f ⌝ }
-{
-    (f.cpu < n) & (f.thread < machine::THREADS) & (f.lock == 0) & (f.a == 0) & (f.b == 0)
-}
-
-// Used: cpu and lock.
-fn cpu_and_lock(n: u32, f: Fields) -> bool
-    ensures { λ r. ⌜ r ≡ cpuAndLock n f ⌝ }
-{
-    (f.cpu < n) & (f.thread == 0) & (f.lock < machine::LOCKS) & (f.a == 0) & (f.b == 0)
-}
-
-// Used: thread, A and B, of which every number is a mask.
-fn thread_and_masks(f: Fields) -> bool
-    ensures { λ r. ⌜ r ≡ threadAndMasks f ⌝ }
-{
-    (f.cpu == 0) & (f.thread < machine::THREADS) & (f.lock == 0)
-}
-
-// Used: thread, and A as a priority.
-fn thread_and_priority(f: Fields) -> bool
-    ensures { λ r. ⌜ r ≡ threadAndPriority f ⌝ }
-{
-    let a = f.a;
-    (f.cpu == 0) & (f.thread < machine::THREADS) & (f.lock == 0) & is_priority(a) & (f.b == 0)
-}
-
-// Used: lock.
-fn lock_alone(f: Fields) -> bool
-    ensures { λ r. ⌜ r ≡ lockAlone f ⌝ }
-{
-    (f.cpu == 0) & (f.thread == 0) & (f.lock < machine::LOCKS) & (f.a == 0) & (f.b == 0)
+    (b == 0) | uses(B_IS_MASK, operation)
 }
 
 // Whether the fields that an operation uses are in range, and all else zero.
-fn well_formed(n: u32, operation: Operation, f: Fields) -> bool
-    ensures { λ r. ⌜ r ≡ wellFormed n operation f ⌝ }
+fn fits(n: u32, operation: u32, f: Fields) -> bool
+    requires { ⌜ operation < 16 ⌝ }
+    ensures { λ r. ⌜ r ≡ Record·fits n (rowOf operation) f ⌝ }
 {
-    match operation {
-        Operation::Unnamed => false,
-        Operation::Up => cpu_alone(n, f),
-        Operation::Down => cpu_alone(n, f),
-        Operation::Put => cpu_and_thread(n, f),
-        Operation::Take => cpu_and_thread(n, f),
-        Operation::Acquire => cpu_and_lock(n, f),
-        Operation::Nested => cpu_and_lock(n, f),
-        Operation::Release => cpu_and_lock(n, f),
-        Operation::Mask => thread_and_masks(f),
-        Operation::Pin => cpu_and_thread(n, f),
-        Operation::Priority => thread_and_priority(f),
-        Operation::Ipi => cpu_and_thread(n, f),
-        Operation::Owner => lock_alone(f),
-    }
-}
-
-// The request that an operation makes of its fields.
-fn carried(operation: Operation, f: Fields) -> Request
-    ensures { λ r. ⌜ r ≡ Record·carried operation f ⌝ }
-{
-    let cpu = CpuId(f.cpu);
-    let thread = ThreadId(f.thread);
-    let lock = LockId(f.lock);
     let a = f.a;
     let b = f.b;
-    match operation {
-        Operation::Unnamed => Request::Malformed,
-        Operation::Up => Request::Up(cpu),
-        Operation::Down => Request::Down(cpu),
-        Operation::Put => Request::Put(cpu, thread),
-        Operation::Take => Request::Take(cpu, thread),
-        Operation::Acquire => Request::Acquire(cpu, lock),
-        Operation::Nested => Request::Nested(cpu, lock),
-        Operation::Release => Request::Release(cpu, lock),
-        Operation::Mask => Request::Mask {
-            thread,
-            enable: a,
-            disable: b,
-        },
-        Operation::Pin => Request::Pin(thread, cpu),
-        Operation::Priority => Request::Priority(thread, signed(a)),
-        Operation::Ipi => Request::Ipi(cpu, thread),
-        Operation::Owner => Request::Owner(lock),
+    (f.cpu < limit(USES_CPU, operation, n))
+        & (f.thread < limit(USES_THREAD, operation, THREADS as u32))
+        & (f.lock < limit(USES_LOCK, operation, LOCKS as u32))
+        & a_fits(operation, a)
+        & b_fits(operation, b)
+}
+
+// What fails the form test.
+fn malformed() -> Request
+    ensures { λ r. ⌜ r ≡ Record·malformed ⌝ }
+{
+    Request {
+        operation: Operation::Malformed,
+        cpu: CpuId(0),
+        thread: ThreadId(0),
+        lock: LockId(0),
     }
 }
 
-// The request in a record, for a machine of n CPUs.
-pub fn request_of(n: u32, bytes: &[u8]) -> Request
-    ensures { λ r. ⌜ r ≡ requestOf n (now (bytes .entry)) ⌝ }
+// The request of an operation with this number, if the fields have its form.
+fn formed(n: u32, number: u32, f: Fields, operation: Operation) -> Request
+    requires { ⌜ number < 16 ⌝ }
+    ensures { λ r. ⌜ r ≡ cond (Record·fits n (rowOf number) f) (request operation (f .cpu) (f .thread) (f .lock)) Record·malformed ⌝ }
 {
+    if !fits(n, number, f) {
+        return malformed();
+    }
+    Request {
+        operation,
+        cpu: CpuId(f.cpu),
+        thread: ThreadId(f.thread),
+        lock: LockId(f.lock),
+    }
+}
+
+// The request in the fields of a record whose fourth byte is zero. Each arm hands its own number to the form test, so that a compiler works the
+// columns out.
+fn carried(n: u32, f: Fields) -> Request
+    ensures { λ r. ⌜ r ≡ cond (Record·fits n (rowOf (f .operation)) f) (Record·carried (rowOf (f .operation)) f) Record·malformed ⌝ }
+{
+    let number = f.operation;
+    let a = f.a;
+    let b = f.b;
+    match number {
+        0 => formed(n, 0, f, Operation::OnCpu(CpuOperation::Up)),
+        1 => formed(n, 1, f, Operation::OnCpu(CpuOperation::Down)),
+        2 => formed(n, 2, f, Operation::OnCpu(CpuOperation::Put)),
+        3 => formed(n, 3, f, Operation::OnCpu(CpuOperation::Take)),
+        4 => formed(n, 4, f, Operation::OnLock(spinlock::Operation::Acquire)),
+        5 => formed(n, 5, f, Operation::OnLock(spinlock::Operation::Nested)),
+        6 => formed(n, 6, f, Operation::OnLock(spinlock::Operation::Release)),
+        7 => {
+            let masks = ThreadOperation::Mask {
+                enable: a,
+                disable: b,
+            };
+            formed(n, 7, f, Operation::OnThread(masks))
+        }
+        8 => formed(n, 8, f, Operation::OnThread(ThreadOperation::Pin)),
+        9 => {
+            let priority = ThreadOperation::Priority(high_first::signed(a));
+            formed(n, 9, f, Operation::OnThread(priority))
+        }
+        10 => formed(n, 10, f, Operation::Ipi),
+        11 => formed(n, 11, f, Operation::Owner),
+        _ => malformed(),
+    }
+}
+
+// The request in a record, for a machine of this setup.
+pub fn request_of(setup: Setup, bytes: &[u8]) -> Request
+    ensures request { λ r. ⌜ r ≡ requestOf setup (now (bytes .entry)) ⌝ }
+    ensures places { λ r. ⌜ InArrays r ⌝ }
+{
+    if !setup.is_ok() {
+        return malformed();
+    }
     if bytes.len() != RECORD_BYTES {
-        return Request::Malformed;
+        return malformed();
     }
     let f = fields_of(bytes);
     if f.zero != 0 {
-        return Request::Malformed;
+        return malformed();
     }
-    let number = f.operation;
-    let operation = operation_of(number);
-    if !well_formed(n, operation, f) {
-        return Request::Malformed;
-    }
-    carried(operation, f)
-}
-
-// The 32 bits of a code, in two's complement.
-fn code_bits(code: Code) -> u32
-    ensures { λ r. ⌜ r ≡ fromSigned 31 (numberOf code) ⌝ }
-{
-    match code {
-        Code::Ok => 0,
-        Code::Eperm => 4294967295,
-        Code::Enomem => 4294967284,
-        Code::Ebusy => 4294967280,
-        Code::Einval => 4294967274,
-        Code::Ealready => 4294967182,
-        Code::Eoverflow => 4294967157,
-    }
-}
-
-// An answer over the front of `out`. Room too short for it stays as it was.
-pub fn put_answer(out: &mut [u8], code: Code, value: u32)
-    ensures { λ r. ⌜ now (out .exit) ≡ written (answerBytes (numberOf code) value) (now (out .entry)) ⌝ }
-{
-    if out.len() < ANSWER_BYTES {
-        return;
-    }
-    let bits = code_bits(code);
-    out[0] = (bits / 0x100_0000 % 256) as u8;
-    out[1] = (bits / 0x1_0000 % 256) as u8;
-    out[2] = (bits / 0x100 % 256) as u8;
-    out[3] = (bits / 0x1 % 256) as u8;
-    out[4] = (value / 0x100_0000 % 256) as u8;
-    out[5] = (value / 0x1_0000 % 256) as u8;
-    out[6] = (value / 0x100 % 256) as u8;
-    out[7] = (value / 0x1 % 256) as u8;
+    carried(setup.n, f)
 }

@@ -16,6 +16,6 @@ fn main() {
     let mut input = [0u8; 24578];
     let n = io::read_full(STDIN_FILENO, &mut input);
     let mut out = [0u8; program::MAX_ANSWER_BYTES];
-    let size = program::respond(&input[..n], &mut out);
-    show(&out, size);
+    let response = program::respond(&input[..n], &mut out);
+    show(&out, response.size);
 }

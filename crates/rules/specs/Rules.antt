@@ -1,58 +1,74 @@
 -- 01, "Log records": the twelve operations, each a function of the cells that it names. The tests stand in the order of 01's table, after the
 -- form test; a value on a refusal is the one that stands after the unchanged call.
 use Prim.Native.Nat.{ℕ, _+_, _-_, _%_, _^_}
-use mathlib.Core.Bool.{Bool, true, false, _&&_, _||_, not, cond}
-use mathlib.Core.List.{_∷_}
+use mathlib.Core.Bool.{Bool, true, false, _||_, not, cond}
+use mathlib.Core.List.{List, _∷_}
 use lib.Dec.{eqb, ltb}
 use lib.IntN.{ℤ}
-use lib.ListN.{replicate}
+use lib.ListN.{getD, replicate}
 use Rattle.error.specs.Codes.{OK, EPERM, EBUSY, EINVAL, EALREADY, numberOf, isOK}
 use Rattle.error.specs.Answer.{Answer, answer}
 use Rattle.words.specs.Bit.{bit, bitNot}
-use Rattle.spinlock_validate.specs.Owner.{tagBits, spinLockComputeOwner, spinUnlockValid}
-use Rattle.spinlock.specs.Table.{codeOf}
-use Rattle.spinlock.specs.Lock.{operate, held, owns}
+use Rattle.spinlock_validate.specs.Owner.{spinLockComputeOwner, spinUnlockValid}
+use Rattle.spinlock.specs.Lock.{operate, held}
 use Rattle.spinlock.specs.declared.SpinlockState.{SpinlockState}
 use Rattle.spinlock.specs.declared.Operation.{Operation}
-use Rattle.spinlock.specs.declared.Situation.{Situation}
 use Rattle.cpu_mask.specs.Mask.{maskBits, cpuMaskMod, cpuPinCompute}
-use Rattle.ipi.specs.Ipi.{maxIpiCpus, noCpu, computeIpiMask}
+use Rattle.ipi.specs.Ipi.{maxIpiCpus, noCpu as Ipi·noCpu, computeIpiMask}
 use Rattle.ipi.specs.declared.CpuRecord.{CpuRecord}
-use Rattle.order.specs.Outcome.{Outcome, refuse, accept, accepted}
-use Rattle.machine.specs.State.{threadWord, isCurrent, idleRun}
+use Rattle.order.specs.Outcome.{Outcome, refuse, accept, answerOf, cellsAfter, appliedTo, accepted}
+use Rattle.machine.specs.State.{isThread, isPriority, tagBits, threadWord, isCurrent, idleRun, noCpu}
 use Rattle.machine.specs.declared.Current.{Current}
 use Rattle.machine.specs.declared.Place.{Place}
+use Rattle.machine.specs.declared.Setup.{Setup}
 use Rattle.machine.specs.declared.Run.{Run}
+use Rattle.machine.specs.declared.Cpu.{Cpu}
 use Rattle.machine.specs.declared.Thread.{Thread}
 use Rattle.machine.specs.declared.Lock.{Lock}
+use Rattle.record.specs.declared.CpuOperation.{CpuOperation}
+use Rattle.record.specs.declared.ThreadOperation.{ThreadOperation}
+use Rattle.rules.specs.declared.Answered.{Answered}
 use Rattle.rules.specs.declared.RunOut.{RunOut}
 use Rattle.rules.specs.declared.SeatOut.{SeatOut}
+use Rattle.rules.specs.declared.CpuOut.{CpuOut}
 use Rattle.rules.specs.declared.ThreadOut.{ThreadOut}
 use Rattle.rules.specs.declared.LockOut.{LockOut}
-use Rattle.rules.specs.declared.ValueOut.{ValueOut}
 
--- What the results say: an answer, and the cells after it. Where a result has no value, it is 0.
+-- What the results say. An answer: a code and a value.
+abbrev pub answeredSays : Answered → Answer ℕ
+answeredSays a = answer (numberOf (a .code)) (a .value)
+
+-- An answer with value 0, and the run cell after it.
 abbrev pub runSays : RunOut → Answer ℕ × Run
 runSays a = (answer (numberOf (a .code)) 0, a .run)
 
+-- With the thread after it.
 abbrev pub seatSays : SeatOut → Answer ℕ × (Run × Thread)
 seatSays a = (answer (numberOf (a .code)) 0, (a .run, a .thread))
 
+-- An answer, with the CPU and the thread after it.
+abbrev pub cpuSays : CpuOut → Answer ℕ × (Cpu × Thread)
+cpuSays a = (answeredSays (a .answer), (a .cpu, a .thread))
+
+-- With the thread after it.
 abbrev pub threadSays : ThreadOut → Answer ℕ × Thread
-threadSays a = (answer (numberOf (a .code)) (a .value), a .thread)
+threadSays a = (answeredSays (a .answer), a .thread)
 
-abbrev pub lockSays : LockOut → Answer ℕ × Lock
-lockSays a = (answer (numberOf (a .code)) (a .value), a .lock)
+-- With the CPU and the lock after it.
+abbrev pub lockSays : LockOut → Answer ℕ × (Cpu × Lock)
+lockSays a = (answeredSays (a .answer), (a .cpu, a .lock))
 
-abbrev pub valueSays : ValueOut → Answer ℕ
-valueSays a = answer (numberOf (a .code)) (a .value)
-
--- Refused with a code and a value; done with a value and the cells after it.
+-- Refused with a code and a value.
 abbrev pub refused : {W : Type 0} → ℤ → ℕ → Outcome (Answer ℕ) W
 refused code value = refuse (answer code value)
 
+-- Done with a value and the cells after it.
 abbrev pub done : {W : Type 0} → ℕ → W → Outcome (Answer ℕ) W
 done value cells = accept (answer OK value) cells
+
+-- A rule that is called with numbers that no record may carry is refused, and hands its cells back.
+abbrev pub ranged : {W : Type 0} → Bool → W → Answer ℕ × W → Answer ℕ × W
+ranged inRange cells o = cond inRange o (answer EINVAL 0, cells)
 
 -- The CPU has a thread.
 abbrev pub occupied : Current → Bool
@@ -72,14 +88,14 @@ up run = cond (run .active) (refused EALREADY 0) (done 0 (idleRun true))
 unfoldable pub down : Run → Outcome (Answer ℕ) Run
 down run = cond (not (run .active)) (refused EALREADY 0) (cond (occupied (run .current)) (refused EBUSY 0) (done 0 (idleRun false)))
 
--- 2 put: not active EINVAL; CPU occupied or thread placed EBUSY; mask bit clear EINVAL. Makes the thread current with its priority and sets its
--- place.
+-- The thread is current with its priority, and the CPU is its place.
 abbrev pub seated : ℕ → ℕ → Run → Thread → Run × Thread
 seated c t run thread = (
   record { active = run .active; current = Current.Thread (record { 0 = t }); priority = thread .priority },
   record { mask = thread .mask; priority = thread .priority; place = Place.On (record { 0 = c }) },
 )
 
+-- 2 put: not active EINVAL; CPU occupied or thread placed EBUSY; mask bit clear EINVAL. Makes the thread current and sets its place.
 unfoldable pub put : ℕ → ℕ → Run → Thread → Outcome (Answer ℕ) (Run × Thread)
 put c t run thread =
     cond (not (run .active)) (refused EINVAL 0)
@@ -87,52 +103,81 @@ put c t run thread =
     (cond (not (bit c (thread .mask))) (refused EINVAL 0)
     (done 0 (seated c t run thread))))
 
--- 3 take: current thread differs or is none EPERM; hold > 0 EBUSY. Leaves the CPU active and idle, and clears the thread's place.
+-- The CPU is active and idle, and the thread has no place.
 abbrev pub unseated : Thread → Run × Thread
 unseated thread = (idleRun true, record { mask = thread .mask; priority = thread .priority; place = Place.Nowhere })
 
+-- 3 take: current thread differs or is none EPERM; hold > 0 EBUSY. Leaves the CPU idle and clears the thread's place.
 unfoldable pub take : ℕ → ℕ → Run → Thread → Outcome (Answer ℕ) (Run × Thread)
 take t hold run thread =
     cond (not (isCurrent (run .current) t)) (refused EPERM 0) (cond (not (eqb hold 0)) (refused EBUSY 0) (done 0 (unseated thread)))
 
--- In ops 5 and 6 ownership needs thread and CPU of the word; the right thread with the wrong CPU is as another thread's.
-abbrev pub elsewhere : ℕ → ℕ → Lock → Bool
-elsewhere c t lock = owns (lock .state .owner) t && not (spinUnlockValid tagBits (lock .word) c (threadWord t) .value)
+-- An answer, with the CPU after another run cell and the thread as it was.
+abbrev pub withRun : Answer ℕ × Run → Cpu → Thread → Answer ℕ × (Cpu × Thread)
+withRun o cpu thread = (o .0, (record { run = o .1; hold = cpu .hold }, thread))
+
+-- The same where the thread is another too.
+abbrev pub withSeat : Answer ℕ × (Run × Thread) → Cpu → Answer ℕ × (Cpu × Thread)
+withSeat o cpu = (o .0, (record { run = o .1 .0; hold = cpu .hold }, o .1 .1))
+
+-- The CPU and the thread after an operation on a CPU.
+unfoldable pub onCpu : CpuOperation → ℕ → ℕ → Cpu → Thread → Answer ℕ × (Cpu × Thread)
+onCpu CpuOperation.Up c t cpu thread = withRun (appliedTo (cpu .run) (up (cpu .run))) cpu thread
+onCpu CpuOperation.Down c t cpu thread = withRun (appliedTo (cpu .run) (down (cpu .run))) cpu thread
+onCpu CpuOperation.Put c t cpu thread = withSeat (appliedTo (cpu .run, thread) (put c t (cpu .run) thread)) cpu
+onCpu CpuOperation.Take c t cpu thread = withSeat (appliedTo (cpu .run, thread) (take t (cpu .hold) (cpu .run) thread)) cpu
+
+-- In ops 5 and 6 ownership needs thread and CPU of the word: a thread is elsewhere unless the word is its own on this CPU, and elsewhere the
+-- right thread is as another one.
+abbrev pub elsewhere : Setup → ℕ → ℕ → Lock → Bool
+elsewhere s c t lock = not (spinUnlockValid (tagBits s) (lock .word) c (threadWord s t) .value)
 
 -- The lock's rule for thread t on CPU c.
-abbrev pub ruled : Operation → ℕ → ℕ → Lock → Answer SpinlockState
-ruled op c t lock = cond (elsewhere c t lock) (answer (codeOf op Situation.Foreign) (lock .state)) (operate op (lock .state) t)
+abbrev pub ruled : Setup → Operation → ℕ → ℕ → Lock → Answer SpinlockState
+ruled s op c t lock = operate op (lock .state) t (elsewhere s c t lock)
 
 -- Taking a free lock makes its word, and freeing it zeroes the word.
-abbrev pub wordAfter : ℕ → ℕ → Lock → SpinlockState → ℕ
-wordAfter c t lock next =
-    cond (held (next .owner)) (cond (held (lock .state .owner)) (lock .word) (spinLockComputeOwner tagBits c (threadWord t) .value)) 0
+abbrev pub wordAfter : Setup → ℕ → ℕ → Lock → SpinlockState → ℕ
+wordAfter s c t lock next =
+    cond (held (next .owner)) (cond (held (lock .state .owner)) (lock .word) (spinLockComputeOwner (tagBits s) c (threadWord s t) .value)) 0
 
--- 4 acquire, 5 nested, 6 release: no thread on cpu EINVAL; then the lock's rule for its current thread. The value is the depth after.
-abbrev pub settled : ℕ → ℕ → Lock → Answer SpinlockState → Outcome (Answer ℕ) Lock
-settled c t lock a =
-    cond (isOK (a .code)) (done (a .value .«nest_count») (record { state = a .value; word = wordAfter c t lock (a .value) }))
+-- What the lock's rule comes to: the lock after it, or its refusal. The value is the depth after.
+abbrev pub settled : Setup → ℕ → ℕ → Lock → Answer SpinlockState → Outcome (Answer ℕ) Lock
+settled s c t lock a =
+    cond (isOK (a .code)) (done (a .value .«nest_count») (record { state = a .value; word = wordAfter s c t lock (a .value) }))
     (refused (a .code) (a .value .«nest_count»))
 
-abbrev pub lockBy : Operation → ℕ → Current → Lock → Outcome (Answer ℕ) Lock
-lockBy op c Current.None lock = refused EINVAL (lock .state .«nest_count»)
-lockBy op c (Current.Thread t) lock = settled c (t .0) lock (ruled op c (t .0) lock)
+-- No thread on cpu EINVAL; then the lock's rule for its current thread. (One from 32 on, which no well-formed machine has, is no thread.)
+abbrev pub lockBy : Setup → Operation → ℕ → Current → Lock → Outcome (Answer ℕ) Lock
+lockBy s op c Current.None lock = refused EINVAL (lock .state .«nest_count»)
+lockBy s op c (Current.Thread t) lock =
+    cond (isThread (t .0)) (settled s c (t .0) lock (ruled s op c (t .0) lock)) (refused EINVAL (lock .state .«nest_count»))
 
-unfoldable pub lockOp : Operation → ℕ → Run → Lock → Outcome (Answer ℕ) Lock
-lockOp op c run lock = lockBy op c (run .current) lock
+-- 4 acquire, 5 nested, 6 release.
+unfoldable pub lockOp : Setup → Operation → ℕ → Run → Lock → Outcome (Answer ℕ) Lock
+lockOp s op c run lock = lockBy s op c (run .current) lock
 
--- An accepted acquire (5 counts as one) or release moves that CPU's hold by one. (A hold is a u32 and stays below 2 ^ 32: a well-formed
--- machine's is at most 128 times 255.)
+-- One more. (A hold is a u32 and stays below 2 ^ 32: a well-formed machine's is at most 128 times 255.)
 abbrev pub oneMore : ℕ → ℕ
 oneMore hold = cond (ltb hold 0xffff_ffff) (hold + 1) hold
 
+-- An acquire (5 counts as one) or a release moves a hold by one.
 abbrev pub moved : Operation → ℕ → ℕ
 moved Operation.Acquire hold = oneMore hold
 moved Operation.Nested hold = oneMore hold
 moved Operation.Release hold = hold - 1
 
+-- It does so if it is accepted.
 abbrev pub holdAfter : Operation → ℕ → Outcome (Answer ℕ) Lock → ℕ
 holdAfter op hold o = cond (accepted o) (moved op hold) hold
+
+-- The answer of a lock's rule, with the CPU after its hold moved and the lock after it.
+abbrev pub withLock : Operation → Cpu → Lock → Outcome (Answer ℕ) Lock → Answer ℕ × (Cpu × Lock)
+withLock op cpu lock o = (answerOf o, (record { run = cpu .run; hold = holdAfter op (cpu .hold) o }, cellsAfter lock o))
+
+-- The CPU and the lock after an operation on a lock.
+unfoldable pub onLock : Setup → Operation → ℕ → Cpu → Lock → Answer ℕ × (Cpu × Lock)
+onLock s op c cpu lock = withLock op cpu lock (lockOp s op c (cpu .run) lock)
 
 -- The mask rule, running = placed. The value is the mask after.
 abbrev pub remasked : Thread → Answer ℕ → Outcome (Answer ℕ) Thread
@@ -141,30 +186,54 @@ remasked thread a =
     (refused (a .code) (a .value))
 
 -- 7 mask.
-unfoldable pub mask : ℕ → ℕ → Bool → Thread → Outcome (Answer ℕ) Thread
-mask enable disable pinOnly thread = remasked thread (cpuMaskMod (thread .mask) enable disable (placed (thread .place)) pinOnly)
+unfoldable pub mask : Setup → ℕ → ℕ → Thread → Outcome (Answer ℕ) Thread
+mask s enable disable thread = remasked thread (cpuMaskMod (thread .mask) enable disable (placed (thread .place)) (s .«pin_only»))
 
 -- The bit of a CPU.
 abbrev pub cpuBit : ℕ → ℕ
 cpuBit c = cpuPinCompute c maskBits .value
 
 -- 8 pin: the mask rule, only that bit left.
-unfoldable pub pin : ℕ → Bool → Thread → Outcome (Answer ℕ) Thread
-pin c pinOnly thread = mask (cpuBit c) (bitNot maskBits (cpuBit c)) pinOnly thread
+unfoldable pub pin : Setup → ℕ → Thread → Outcome (Answer ℕ) Thread
+pin s c thread = mask s (cpuBit c) (bitNot maskBits (cpuBit c)) thread
 
 -- 9 priority: placed EBUSY. Sets the priority to A.
 unfoldable pub priority : ℤ → Thread → Outcome (Answer ℕ) Thread
 priority a thread =
     cond (placed (thread .place)) (refused EBUSY 0) (done 0 (record { mask = thread .mask; priority = a; place = thread .place }))
 
--- 10 ipi: cpu as current, n CPUs, the thread's priority and mask. The value is the IPI mask.
+-- The thread after an operation on it.
+unfoldable pub onThread : Setup → ThreadOperation → ℕ → Thread → Answer ℕ × Thread
+onThread s (ThreadOperation.Mask enable disable) c thread = appliedTo thread (mask s enable disable thread)
+onThread s ThreadOperation.Pin c thread = appliedTo thread (pin s c thread)
+onThread s (ThreadOperation.Priority a) c thread = appliedTo thread (priority a thread)
+
+-- A record may carry the operation: a priority lies in -128..127.
+abbrev pub carriable : ThreadOperation → Bool
+carriable (ThreadOperation.Mask enable disable) = true
+carriable ThreadOperation.Pin = true
+carriable (ThreadOperation.Priority a) = isPriority a
+
+-- What the interrupt rule looks at in a run cell.
 abbrev pub cpuRecord : Run → CpuRecord
 cpuRecord run = record { active = run .active; priority = run .priority }
 
-unfoldable pub ipi : ℕ → ℕ → Run → Run → Run → Run → Thread → Answer ℕ
-ipi c n r0 r1 r2 r3 thread =
-    computeIpiMask c (thread .priority) (thread .mask)
-    (cpuRecord r0 ∷ cpuRecord r1 ∷ cpuRecord r2 ∷ cpuRecord r3 ∷ replicate 12 noCpu) n maxIpiCpus
+-- The records of four run cells, and of nobody past them.
+abbrev pub recordsOf : Run → Run → Run → Run → List CpuRecord
+recordsOf r0 r1 r2 r3 = cpuRecord r0 ∷ cpuRecord r1 ∷ cpuRecord r2 ∷ cpuRecord r3 ∷ replicate 12 Ipi·noCpu
+
+-- The records of these CPUs.
+abbrev pub cpuRecords : List Cpu → List CpuRecord
+cpuRecords cpus = recordsOf (getD cpus 0 noCpu .run) (getD cpus 1 noCpu .run) (getD cpus 2 noCpu .run) (getD cpus 3 noCpu .run)
+
+-- 10 ipi: cpu as current, n CPUs, the thread's priority and mask. The value is the IPI mask.
+unfoldable pub ipi : Setup → ℕ → Run → Run → Run → Run → Thread → Answer ℕ
+ipi s c r0 r1 r2 r3 thread = computeIpiMask c (thread .priority) (thread .mask) (recordsOf r0 r1 r2 r3) (s .n) maxIpiCpus
+
+-- That rule on the run cells of these CPUs.
+abbrev pub ipiOf : Setup → ℕ → List Cpu → Thread → Answer ℕ
+ipiOf s c cpus thread =
+    ipi s c (getD cpus 0 noCpu .run) (getD cpus 1 noCpu .run) (getD cpus 2 noCpu .run) (getD cpus 3 noCpu .run) thread
 
 -- 11 owner: the value is the owner word, in 32 bits.
 unfoldable pub owner : Lock → Answer ℕ

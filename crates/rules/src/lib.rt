@@ -6,10 +6,17 @@
 ghost use mathlib.Core.Path.{_≡_};
 ghost use Rattle.rules.specs.Rules.{placed};
 use error::Code;
+use machine::Cpu;
 use machine::Lock;
 use machine::Place;
 use machine::Run;
 use machine::Thread;
+
+// The code and the value of a record.
+pub struct Answered {
+    pub code: Code,
+    pub value: u32,
+}
 
 // A run cell after an operation, with its code.
 pub struct RunOut {
@@ -24,25 +31,24 @@ pub struct SeatOut {
     pub thread: Thread,
 }
 
-// A thread's cell after an operation, with its code and value.
-pub struct ThreadOut {
-    pub code: Code,
-    pub value: u32,
+// A CPU and a thread after an operation on the CPU, with its answer.
+pub struct CpuOut {
+    pub answer: Answered,
+    pub cpu: Cpu,
     pub thread: Thread,
 }
 
-// A lock's cell and a hold cell after an operation, with its code and value.
-pub struct LockOut {
-    pub code: Code,
-    pub value: u32,
-    pub lock: Lock,
-    pub hold: u32,
+// A thread's cell after an operation, with its answer.
+pub struct ThreadOut {
+    pub answer: Answered,
+    pub thread: Thread,
 }
 
-// The code and the value of an operation that writes nothing.
-pub struct ValueOut {
-    pub code: Code,
-    pub value: u32,
+// A lock and the CPU that asks for it after an operation, with its answer.
+pub struct LockOut {
+    pub answer: Answered,
+    pub cpu: Cpu,
+    pub lock: Lock,
 }
 
 // Whether a thread has a place.

@@ -8,27 +8,19 @@ use lib.ListN.{length, take, drop}
 use Rattle.error.specs.Codes.{OK, ENOMEM, EINVAL, EOVERFLOW, numberOf, isOK}
 use Rattle.error.specs.Answer.{Answer, answer}
 use Rattle.machine.specs.declared.Machine.{Machine}
-use Rattle.record.specs.Answer.{answerBytes, written}
+use Rattle.answers.specs.Answer.{answerBytes, written}
 use Rattle.wellformed.specs.WellFormed.{wellFormed}
-use Rattle.runner.specs.Step.{answered, next}
+use Rattle.operations.specs.Log.{stateAt, answerAt}
 use Rattle.runner.specs.declared.Ran.{Ran}
 
 -- A run's code and machine.
 abbrev pub ranSays : Ran → Answer Machine
 ranSays a = answer (numberOf (a .code)) (a .machine)
 
--- Record k of a log: twelve bytes.
-abbrev pub recordAt : List ℕ → ℕ → List ℕ
-recordAt log k = take 12 (drop (k * 12) log)
-
--- The machine after the first k records.
-unfoldable pub stateAt : Machine → List ℕ → ℕ → Machine
-stateAt m log zero = m
-stateAt m log (suc k) = next (stateAt m log k) (recordAt log k)
-
--- The answer to record k.
-abbrev pub answerAt : Machine → List ℕ → ℕ → Answer ℕ
-answerAt m log k = answered (stateAt m log k) (recordAt log k)
+-- The answer to the last of the first k records; of none, that of a record that fails the form test.
+unfoldable pub lastAnswer : Machine → List ℕ → ℕ → Answer ℕ
+lastAnswer m log zero = answer EINVAL 0
+lastAnswer m log (suc k) = answerAt m log k
 
 -- An answer written into the rest of the buffer from a place on.
 abbrev pub writtenAt : ℕ → Answer ℕ → List ℕ → List ℕ

@@ -1,23 +1,34 @@
-// One record on a machine, and a log of records: each record loads the cells that it names, hands them to its rule, and stores what comes
-// back.
+// One record on a machine, and a log of records: each record loads the cells that its family names, hands them to their rule, and stores what
+// comes back.
 //
-// New here. Document 01, "Log records". The loop of `run` owns the machine and stores single elements, since passing a machine through a
-// function costs more than a record does. A caller can rely on these: a refused step or run leaves the machine, and a refused run every byte.
+// New here. Document 01, "Log records". There is one loop, and a step is a log of one record. The loop owns the machine and stores single
+// elements, since passing a machine through a function costs more than a record does. A caller can rely on these: a refused step or run leaves
+// the machine, and a refused run every byte.
 ghost use mathlib.Core.Path.{_≡_};
-ghost use Prim.Native.Nat.{_*_, _/_, _≤_};
+ghost use mathlib.Core.Bool.{true};
+ghost use Prim.Native.Nat.{_+_, _*_, _/_, _≤_};
 ghost use lib.ListN.{length};
-ghost use Rattle.runner.specs.Step.{steppedSays, answered, next, step as Step·step};
-ghost use Rattle.runner.specs.Run.{ranSays, stateAt, roomAt, ran, ranRoom};
+ghost use Rattle.machine.specs.State.{setupOk};
+ghost use Rattle.rules.specs.Rules.{answeredSays};
+ghost use Rattle.record.specs.Record.{InArrays, requestOf};
+ghost use Rattle.operations.specs.Log.{recordAt, stateAt};
+ghost use Rattle.runner.specs.Step.{steppedSays, step as Step·step};
+ghost use Rattle.runner.specs.Run.{ranSays, lastAnswer, writtenAt, roomAt, ran, ranRoom};
+use answers::ANSWER_BYTES;
 use error::Code;
 use machine::Machine;
+use machine::Setup;
+use record::Operation;
+use record::RECORD_BYTES;
+use record::Request;
+use rules::Answered;
 
 // The longest log, 2,048 records.
 pub const MAX_LOG_BYTES: usize = 24576;
 
-// A machine after a record, with the record's code and value.
+// A machine after a record, with the record's answer.
 pub struct Stepped {
-    pub code: Code,
-    pub value: u32,
+    pub answer: Answered,
     pub machine: Machine,
 }
 
@@ -27,43 +38,82 @@ pub struct Ran {
     pub machine: Machine,
 }
 
-// A record on a machine that has been found well-formed.
-fn turn(mut m: Machine, bytes: &[u8]) -> Stepped
-    requires { ⌜ m .n ≤ 4 ⌝ }
-    ensures { λ r. ⌜ steppedSays r ≡ (answered m (now (bytes .entry)), next m (now (bytes .entry))) ⌝ }
+// The answer to a record that fails the form test, and to every record on a machine that is not well-formed.
+const REFUSED: Answered = Answered {
+    code: Code::Einval,
+    value: 0,
+};
+
+// The request in record k of a log.
+fn request_at(setup: Setup, log: &[u8], k: usize) -> Request
+    requires { ⌜ (k * 12 + 12 ≤ length (now log)) × (length (now log) ≤ 24576) ⌝ }
+    ensures request { λ r. ⌜ r ≡ requestOf setup (recordAt (now (log .entry)) k) ⌝ }
+    ensures places { λ r. ⌜ InArrays r ⌝ }
 {
-    let request = record::request_of(m.n, bytes);
-    let c = named_cells::cpu_index(request);
-    let cpu = m.cpus[c];
-    if named_cells::names_lock(request) {
-        let l = named_cells::lock_index(request);
-        let lock = m.locks[l];
-        let o = touch::on_lock(request, cpu, lock);
-        let code = o.code;
-        let cpu_after = o.cpu;
-        let lock_after = o.lock;
-        m.cpus[c] = cpu_after;
-        m.locks[l] = lock_after;
-        return Stepped {
-            code,
-            value: o.value,
-            machine: m,
-        };
+    let at = k * RECORD_BYTES;
+    let end = at + RECORD_BYTES;
+    record::request_of(setup, &log[at..end])
+}
+
+// The answer to record k, written into the rest of the room from its place on.
+fn put_answer_at(out: &mut [u8], k: usize, answer: Answered)
+    requires { ⌜ k * 8 ≤ length (now out) ⌝ }
+    ensures { λ _. ⌜ now (out .exit) ≡ writtenAt (k * 8) (answeredSays answer) (now (out .entry)) ⌝ }
+{
+    let to = k * ANSWER_BYTES;
+    let code = answer.code;
+    answers::put_answer(&mut out[to..], code, answer.value);
+}
+
+// Every record of a log on a machine that has been found well-formed, with room for every answer. The answer that comes back is the last
+// record's; with no record it is that of a record that fails the form test.
+fn run_records(mut m: Machine, log: &[u8], out: &mut [u8]) -> Stepped
+    requires { ⌜ setupOk (m .setup) ≡ true ⌝ }
+    requires { ⌜ length (now log) ≤ 24576 ⌝ }
+    requires { ⌜ length (now log) / 12 * 8 ≤ length (now out) ⌝ }
+    ensures answer { λ r. ⌜ answeredSays (r .answer) ≡ lastAnswer m (now (log .entry)) (length (now (log .entry)) / 12) ⌝ }
+    ensures machine { λ r. ⌜ r .machine ≡ stateAt m (now (log .entry)) (length (now (log .entry)) / 12) ⌝ }
+    ensures room { λ _. ⌜ now (out .exit) ≡ roomAt m (now (log .entry)) (now (out .entry)) (length (now (log .entry)) / 12) ⌝ }
+{
+    let setup = m.setup;
+    let mut answer = REFUSED;
+    for i in 0..log.len() / RECORD_BYTES {
+        let request = request_at(setup, log, i);
+        let c = request.cpu;
+        let t = request.thread;
+        let operation = request.operation;
+        match operation {
+            Operation::Malformed => answer = REFUSED,
+            Operation::OnCpu(asked) => {
+                let cpu = m.cpus[c.0 as usize];
+                let o = cpu_rules::on_cpu(setup, asked, c, t, cpu, m.threads[t.0 as usize]);
+                let cpu = o.cpu;
+                let thread = o.thread;
+                m.cpus[c.0 as usize] = cpu;
+                m.threads[t.0 as usize] = thread;
+                answer = o.answer;
+            }
+            Operation::OnLock(asked) => {
+                let cpu = m.cpus[c.0 as usize];
+                let o = lock_rules::on_lock(setup, asked, c, cpu, m.locks[request.lock.0 as usize]);
+                let cpu = o.cpu;
+                let lock = o.lock;
+                m.cpus[c.0 as usize] = cpu;
+                m.locks[request.lock.0 as usize] = lock;
+                answer = o.answer;
+            }
+            Operation::OnThread(asked) => {
+                let o = thread_rules::on_thread(setup, asked, c, m.threads[t.0 as usize]);
+                let thread = o.thread;
+                m.threads[t.0 as usize] = thread;
+                answer = o.answer;
+            }
+            Operation::Ipi => answer = thread_rules::ipi(setup, c, m.cpus, m.threads[t.0 as usize]),
+            Operation::Owner => answer = lock_rules::owner(m.locks[request.lock.0 as usize]),
+        }
+        put_answer_at(out, i, answer);
     }
-    let t = named_cells::thread_index(request);
-    let cpus = m.cpus;
-    let thread = m.threads[t];
-    let o = touch::on_seat(m.n, m.pin_only, request, cpus, cpu, thread);
-    let code = o.code;
-    let cpu_after = o.cpu;
-    let thread_after = o.thread;
-    m.cpus[c] = cpu_after;
-    m.threads[t] = thread_after;
-    Stepped {
-        code,
-        value: o.value,
-        machine: m,
-    }
+    Stepped { answer, machine: m }
 }
 
 // One record on any machine.
@@ -72,56 +122,18 @@ pub fn step(m: Machine, bytes: &[u8]) -> Stepped
 {
     if !wellformed::well_formed(m) {
         return Stepped {
-            code: Code::Einval,
-            value: 0,
+            answer: REFUSED,
             machine: m,
         };
     }
-    turn(m, bytes)
-}
-
-// Every record of a log on a machine that has been found well-formed, with room for every answer.
-fn run_records(mut m: Machine, log: &[u8], out: &mut [u8]) -> Machine
-    requires { ⌜ m .n ≤ 4 ⌝ }
-    requires { ⌜ length (now log) ≤ 24576 ⌝ }
-    requires { ⌜ length (now log) / 12 * 8 ≤ length (now out) ⌝ }
-    ensures machine { λ r. ⌜ r ≡ stateAt m (now (log .entry)) (length (now (log .entry)) / 12) ⌝ }
-    ensures room { λ _. ⌜ now (out .exit) ≡ roomAt m (now (log .entry)) (now (out .entry)) (length (now (log .entry)) / 12) ⌝ }
-{
-    let count = log.len() / 12;
-    let mut i: usize = 0;
-    while i < count {
-        let at = i * 12;
-        let end = at + 12;
-        let to = i * 8;
-        let request = record::request_of(m.n, &log[at..end]);
-        let c = named_cells::cpu_index(request);
-        let cpu = m.cpus[c];
-        if named_cells::names_lock(request) {
-            let l = named_cells::lock_index(request);
-            let lock = m.locks[l];
-            let o = touch::on_lock(request, cpu, lock);
-            let code = o.code;
-            let cpu_after = o.cpu;
-            let lock_after = o.lock;
-            m.cpus[c] = cpu_after;
-            m.locks[l] = lock_after;
-            record::put_answer(&mut out[to..], code, o.value);
-        } else {
-            let t = named_cells::thread_index(request);
-            let cpus = m.cpus;
-            let thread = m.threads[t];
-            let o = touch::on_seat(m.n, m.pin_only, request, cpus, cpu, thread);
-            let code = o.code;
-            let cpu_after = o.cpu;
-            let thread_after = o.thread;
-            m.cpus[c] = cpu_after;
-            m.threads[t] = thread_after;
-            record::put_answer(&mut out[to..], code, o.value);
-        }
-        i += 1;
+    if bytes.len() != RECORD_BYTES {
+        return Stepped {
+            answer: REFUSED,
+            machine: m,
+        };
     }
-    m
+    let mut room = [0u8; ANSWER_BYTES];
+    run_records(m, bytes, &mut room)
 }
 
 // A log on any machine, its answers into lent room.
@@ -141,19 +153,20 @@ pub fn run(m: Machine, log: &[u8], out: &mut [u8]) -> Ran
             machine: m,
         };
     }
-    if log.len() % 12 != 0 {
+    if log.len() % RECORD_BYTES != 0 {
         return Ran {
             code: Code::Einval,
             machine: m,
         };
     }
-    if out.len() < log.len() / 12 * 8 {
+    if out.len() < log.len() / RECORD_BYTES * ANSWER_BYTES {
         return Ran {
             code: Code::Enomem,
             machine: m,
         };
     }
-    let machine = run_records(m, log, out);
+    let last = run_records(m, log, out);
+    let machine = last.machine;
     Ran {
         code: Code::Ok,
         machine,

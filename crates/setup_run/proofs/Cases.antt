@@ -34,11 +34,13 @@ module _ (byte : ℕ) (log room : List ℕ) (a : Made) (e : madeSays a ≡ setup
   )
 
 -- A refusal, of the byte or of the log, writes nothing.
-pub refused-writes-nothing : (byte : ℕ) (log room : List ℕ) → isOK (codeFromSetup byte log (length room)) ≡ false → roomFromSetup byte log room ≡ room
+pub refused-writes-nothing : (byte : ℕ) (log room : List ℕ) → isOK (codeFromSetup byte log (length room)) ≡ false
+    → roomFromSetup byte log room ≡ room
 unfolding codeFromSetup roomFromSetup
 refused-writes-nothing byte log room =
     bool-ind
-    (λ good. isOK (cond good (ran (setup byte .value) log (length room) .code) (setup byte .code)) ≡ false → cond good (ranRoom (setup byte .value) log room) room ≡ room)
+    (λ good. isOK (cond good (ran (setup byte .value) log (length room) .code) (setup byte .code)) ≡ false
+    → cond good (ranRoom (setup byte .value) log room) room ≡ room)
     (isOK (setup byte .code)) (λ _. refused-room (setup byte .value) log room) (λ _ _. refl)
 
 -- An accepted log was run by the machine that the byte asks for.
@@ -48,5 +50,6 @@ unfolding codeFromSetup roomFromSetup
 accepted-runs byte log room =
     bool-ind
     (λ good. isOK (setup byte .code) ≡ good → isOK (cond good (ran (setup byte .value) log (length room) .code) (setup byte .code)) ≡ true
-    → (isOK (ran (setup byte .value) log (length room) .code) ≡ true) × (cond good (ranRoom (setup byte .value) log room) room ≡ ranRoom (setup byte .value) log room))
+    → (isOK (ran (setup byte .value) log (length room) .code) ≡ true)
+    × (cond good (ranRoom (setup byte .value) log room) room ≡ ranRoom (setup byte .value) log room))
     (isOK (setup byte .code)) (λ _ _ ok. (ok, refl)) (λ _ bad ok. absurd (false≢true (sym bad ∙ ok))) refl

@@ -13,7 +13,7 @@ pub fn run_from_setup(setup: u8, log: &[u8], out: &mut [u8]) -> Code
     ensures code { λ r. ⌜ numberOf r ≡ codeFromSetup setup (now (log .entry)) (length (now (out .entry))) ⌝ }
     ensures room { λ _. ⌜ now (out .exit) ≡ roomFromSetup setup (now (log .entry)) (now (out .entry)) ⌝ }
 {
-    let made = machine::setup(setup);
+    let made = machine::from_setup_byte(setup);
     let refused = made.code;
     if !error::is_ok(refused) {
         return refused;

@@ -4,7 +4,6 @@ use error::YesNo;
 use spinlock::Changed;
 use spinlock::Operation;
 use spinlock::Owner;
-use spinlock::Situation;
 use spinlock::SpinlockState;
 
 const DEPTHS: [u32; 10] = [0, 1, 2, 3, 4, 254, 255, 256, 0x8000_0000, 0xffff_ffff];
@@ -51,13 +50,35 @@ fn answered(name: &[u8], s: SpinlockState, tid: u32, r: YesNo) {
 
 // Every call by one thread on one record.
 fn by_thread(s: SpinlockState, tid: u32) {
-    situation(s, tid);
     changed(b"acquire", s, tid, s.acquire(tid));
     changed(b"acquire_nested", s, tid, s.acquire_nested(tid));
     changed(b"release", s, tid, s.release(tid));
     answered(b"acquire_check", s, tid, s.acquire_check(tid));
     answered(b"release_check", s, tid, s.release_check(tid));
     answered(b"is_owner", s, tid, s.is_owner(tid));
+    elsewhere(s, tid);
+}
+
+// The three operations by a thread on another CPU than it took the lock on, if it did.
+fn elsewhere(s: SpinlockState, tid: u32) {
+    changed(
+        b"acquire_elsewhere",
+        s,
+        tid,
+        s.operate(Operation::Acquire, tid, true),
+    );
+    changed(
+        b"nested_elsewhere",
+        s,
+        tid,
+        s.operate(Operation::Nested, tid, true),
+    );
+    changed(
+        b"release_elsewhere",
+        s,
+        tid,
+        s.operate(Operation::Release, tid, true),
+    );
 }
 
 fn read(name: &[u8], s: SpinlockState, r: YesNo) {
@@ -95,25 +116,6 @@ fn validity(s: SpinlockState) {
     state(s);
     show::text(b":");
     show::yes_or_no(s.valid());
-    show::end();
-}
-
-// What the record is to a thread, with the codes that the table has for that.
-fn situation(s: SpinlockState, tid: u32) {
-    asked(b"situation", s, tid);
-    let situation = s.situation(tid);
-    match situation {
-        Situation::Free => show::text(b": free"),
-        Situation::Own => show::text(b": own"),
-        Situation::Full => show::text(b": full"),
-        Situation::Foreign => show::text(b": foreign"),
-    }
-    show::text(b", acquire");
-    show::code(spinlock::code_of(Operation::Acquire, situation));
-    show::text(b", nested");
-    show::code(spinlock::code_of(Operation::Nested, situation));
-    show::text(b", release");
-    show::code(spinlock::code_of(Operation::Release, situation));
     show::end();
 }
 

@@ -1,9 +1,9 @@
 -- Laws of one lock record, real heirs of upstream's lemmas: every operation keeps validity, a refusal changes nothing, a release undoes an
--- acquire of either kind, n nested acquires take n releases, and a plain acquire of a held lock is refused to every thread. An operation on
--- a valid record goes by what the record is to the thread (`view`). Assumes nothing.
+-- acquire of either kind, n nested acquires take n releases, a plain acquire of a held lock is refused to every thread, and elsewhere the
+-- owner is as another thread. An operation on a valid record goes by what the record is to the thread (`view`). Assumes nothing.
 use mathlib.Core.Path.{_≡_, refl, sym, ap, _∙_}
 use mathlib.Core.Logic.{_⊎_, inl, inr}
-use mathlib.Core.Bool.{true, false, cond, false≢true}
+use mathlib.Core.Bool.{Bool, true, false, cond, false≢true}
 use Prim.Native.Nat.{ℕ, zero, suc, _+_, _-_, _≤_, _<_}
 use native.Mathlib.Numerals.{add-one}
 use native.Mathlib.Omega.{arith}
@@ -15,8 +15,27 @@ use Rattle.error.specs.Answer.{Answer, answer}
 use Rattle.error.proofs.Answers.{same-code}
 use Rattle.words.proofs.Choice.{bool-ind, below-or}
 use Rattle.spinlock.specs.Table.{codeOf}
-use Rattle.spinlock.specs.Lock.{maxNestDepth, freeRecord, takenBy, deeper, shallower, validRecord, situationOf, after, operate, acquire, acquireNested, release, held, read, isFree}
-use Rattle.spinlock.specs.declared.Owner.the-variants.{Thread}
+use Rattle.spinlock.specs.Lock.{
+  maxNestDepth,
+  freeRecord,
+  takenBy,
+  deeper,
+  shallower,
+  validRecord,
+  situationBy,
+  situationAt,
+  after,
+  operate,
+  acquire,
+  acquireNested,
+  release,
+  held,
+  owns,
+  read,
+  isFree,
+}
+use Rattle.spinlock.specs.declared.Owner.{Owner}
+use Rattle.spinlock.specs.declared.Owner.the-variants.{None, Thread}
 use Rattle.spinlock.specs.declared.SpinlockState.{SpinlockState}
 use Rattle.spinlock.specs.declared.Operation.{Operation}
 use Rattle.spinlock.specs.declared.Operation.the-variants.{Acquire, Nested, Release}
@@ -25,15 +44,15 @@ use Rattle.spinlock.specs.declared.Situation.the-variants.{Free, Own, Fu
 use Rattle.spinlock.proofs.Situations.{HeldBy, View, free, own, full, foreign, view, below-is-own, deepest-is-full}
 
 -- An operation on a valid record, by its situation.
-pub operated : (op : Operation) (s : SpinlockState) (tid : ℕ) {sit : Situation} → validRecord s ≡ true → situationOf s tid ≡ sit
-    → operate op s tid ≡ answer (codeOf op sit) (after op sit s tid)
+pub operated : (op : Operation) (s : SpinlockState) (tid : ℕ) (elsewhere : Bool) {sit : Situation} → validRecord s ≡ true
+    → situationAt s tid elsewhere ≡ sit → operate op s tid elsewhere ≡ answer (codeOf op sit) (after op sit s tid)
 unfolding operate
-operated op s tid valid e = rw (valid, e)
+operated op s tid elsewhere valid e = rw (valid, e)
 
 -- An invalid record comes back as given.
-pub invalid-refused : (op : Operation) (s : SpinlockState) (tid : ℕ) → validRecord s ≡ false → operate op s tid ≡ answer EINVAL s
+pub invalid-refused : (op : Operation) (s : SpinlockState) (tid : ℕ) (elsewhere : Bool) → validRecord s ≡ false → operate op s tid elsewhere ≡ answer EINVAL s
 unfolding operate
-invalid-refused op s tid bad = rw bad
+invalid-refused op s tid elsewhere bad = rw bad
 
 -- ---- validity is kept
 
@@ -58,24 +77,26 @@ unfolding after validRecord
 after-valid Acquire s tid valid (free _) = refl
 after-valid Acquire s tid valid (own _ _) = valid
 after-valid Acquire s tid valid (full _ _) = valid
-after-valid Acquire s tid valid (foreign _ _ _) = valid
+after-valid Acquire s tid valid (foreign _ _) = valid
 after-valid Nested s tid valid (free _) = refl
 after-valid Nested s tid valid (own mine below) =
     let more : s .«nest_count» + 1 ≤ maxNestDepth = omega arith in
     held-valid (deeper s) tid (mine .owner) (omega arith) more
 after-valid Nested s tid valid (full _ _) = valid
-after-valid Nested s tid valid (foreign _ _ _) = valid
+after-valid Nested s tid valid (foreign _ _) = valid
 after-valid Release s tid valid (free _) = valid
 after-valid Release s tid valid (own mine _) = shallower-valid s tid mine
 after-valid Release s tid valid (full mine _) = shallower-valid s tid mine
-after-valid Release s tid valid (foreign _ _ _) = valid
+after-valid Release s tid valid (foreign _ _) = valid
 
 -- Upstream's lemma_invariant_inductive: an operation makes no valid record invalid, and no invalid record valid.
-pub operate-keeps-valid : (op : Operation) (s : SpinlockState) (tid : ℕ) → validRecord (operate op s tid .value) ≡ validRecord s
-operate-keeps-valid op s tid =
-    bool-ind (λ b. validRecord s ≡ b → validRecord (operate op s tid .value) ≡ b) (validRecord s)
-    (λ _ valid. ap (λ (a : Answer SpinlockState). validRecord (a .value)) (operated op s tid valid refl) ∙ after-valid op s tid valid (view s tid valid))
-    (λ _ bad. ap (λ (a : Answer SpinlockState). validRecord (a .value)) (invalid-refused op s tid bad) ∙ bad) refl
+pub operate-keeps-valid : (op : Operation) (s : SpinlockState) (tid : ℕ) (elsewhere : Bool) → validRecord (operate op s tid elsewhere .value) ≡ validRecord s
+operate-keeps-valid op s tid elsewhere =
+    bool-ind (λ b. validRecord s ≡ b → validRecord (operate op s tid elsewhere .value) ≡ b) (validRecord s)
+    (λ _ valid.
+    ap (λ (a : Answer SpinlockState). validRecord (a .value)) (operated op s tid elsewhere valid refl)
+    ∙ after-valid op s tid valid (view s tid elsewhere valid))
+    (λ _ bad. ap (λ (a : Answer SpinlockState). validRecord (a .value)) (invalid-refused op s tid elsewhere bad) ∙ bad) refl
 
 -- ---- a refusal changes nothing
 
@@ -94,14 +115,15 @@ after-refused Release Own s tid h = absurd (h refl)
 after-refused Release Full s tid h = absurd (h refl)
 after-refused Release Foreign s tid h = refl
 
-pub refused-unchanged : (op : Operation) (s : SpinlockState) (tid : ℕ) → (operate op s tid .code ≡ OK → ⊥) → operate op s tid .value ≡ s
+pub refused-unchanged : (op : Operation) (s : SpinlockState) (tid : ℕ) (elsewhere : Bool) → (operate op s tid elsewhere .code ≡ OK → ⊥)
+    → operate op s tid elsewhere .value ≡ s
 unfolding operate
-refused-unchanged op s tid =
+refused-unchanged op s tid elsewhere =
     bool-ind
     (λ b.
-    let a = cond b (answer (codeOf op (situationOf s tid)) (after op (situationOf s tid) s tid)) (answer EINVAL s) in
+    let a = cond b (answer (codeOf op (situationAt s tid elsewhere)) (after op (situationAt s tid elsewhere) s tid)) (answer EINVAL s) in
     (a .code ≡ OK → ⊥) → a .value ≡ s)
-    (validRecord s) (λ _ h. after-refused op (situationOf s tid) s tid h) (λ _ h. refl)
+    (validRecord s) (λ _ h. after-refused op (situationAt s tid elsewhere) s tid h) (λ _ h. refl)
 
 -- ---- a release undoes an acquire
 
@@ -111,8 +133,8 @@ unfolding codeOf after
 release-held s tid mine = by-depth (held-valid s tid (mine .owner) (mine .some) (mine .most)) (below-or (s .«nest_count») maxNestDepth)
   where
     by-depth : validRecord s ≡ true → (s .«nest_count» < maxNestDepth) ⊎ (maxNestDepth ≤ s .«nest_count») → release s tid ≡ answer OK (shallower s)
-    by-depth valid (inl below) = operated Release s tid valid (below-is-own s tid (mine .owner) below)
-    by-depth valid (inr deepest) = operated Release s tid valid (deepest-is-full s tid (mine .owner) deepest)
+    by-depth valid (inl below) = operated Release s tid false valid (below-is-own s tid (mine .owner) below)
+    by-depth valid (inr deepest) = operated Release s tid false valid (deepest-is-full s tid (mine .owner) deepest)
 
 -- The record of a thread at a depth: free at depth 0, and held with the flag set above it.
 abbrev pub atDepth : ℕ → ℕ → SpinlockState
@@ -141,27 +163,30 @@ unfolding codeOf after
 undone Acquire plain s tid (free e) _ = release-held (takenBy tid) tid (taken-held tid) ∙ ap (answer OK) (sym e)
 undone Acquire plain s tid (own _ _) e = absurd (pos-ne-negsuc 0 15 (sym e))
 undone Acquire plain s tid (full _ _) e = absurd (pos-ne-negsuc 0 15 (sym e))
-undone Acquire plain s tid (foreign _ _ _) e = absurd (pos-ne-negsuc 0 15 (sym e))
+undone Acquire plain s tid (foreign _ _) e = absurd (pos-ne-negsuc 0 15 (sym e))
 undone Nested nested s tid (free e) _ = release-held (takenBy tid) tid (taken-held tid) ∙ ap (answer OK) (sym e)
 undone Nested nested s tid (own mine below) _ =
     release-held (deeper s) tid (deeper-held s tid mine below) ∙ ap (answer OK) (shallower-deeper s (mine .some))
 undone Nested nested s tid (full _ _) e = absurd (pos-ne-negsuc 0 15 (sym e))
-undone Nested nested s tid (foreign _ _ _) e = absurd (pos-ne-negsuc 0 15 (sym e))
+undone Nested nested s tid (foreign _ _) e = absurd (pos-ne-negsuc 0 15 (sym e))
 
 -- Upstream's lemma_acquire_release_roundtrip and lemma_nested_acquire_release: whatever record an accepted acquire of either kind was asked
 -- of, a release by the same thread gives that record back, flag included.
-pub release-undoes : (op : Operation) → Takes op → (s : SpinlockState) (tid : ℕ) → operate op s tid .code ≡ OK
-    → release (operate op s tid .value) tid ≡ answer OK s
-release-undoes op takes s tid =
-    bool-ind (λ b. validRecord s ≡ b → operate op s tid .code ≡ OK → release (operate op s tid .value) tid ≡ answer OK s) (validRecord s)
+pub release-undoes : (op : Operation) → Takes op → (s : SpinlockState) (tid : ℕ) (elsewhere : Bool) → operate op s tid elsewhere .code ≡ OK
+    → release (operate op s tid elsewhere .value) tid ≡ answer OK s
+release-undoes op takes s tid elsewhere =
+    bool-ind
+    (λ b. validRecord s ≡ b → operate op s tid elsewhere .code ≡ OK → release (operate op s tid elsewhere .value) tid ≡ answer OK s)
+    (validRecord s)
     (λ _ valid accepted.
-    let e = operated op s tid valid refl in
-    ap (λ (a : Answer SpinlockState). release (a .value) tid) e ∙ undone op takes s tid (view s tid valid) (sym (same-code e) ∙ accepted))
-    (λ _ bad accepted. absurd (pos-ne-negsuc 0 21 (sym accepted ∙ same-code (invalid-refused op s tid bad)))) refl
+    let e = operated op s tid elsewhere valid refl in
+    ap (λ (a : Answer SpinlockState). release (a .value) tid) e
+    ∙ undone op takes s tid (view s tid elsewhere valid) (sym (same-code e) ∙ accepted))
+    (λ _ bad accepted. absurd (pos-ne-negsuc 0 21 (sym accepted ∙ same-code (invalid-refused op s tid elsewhere bad)))) refl
 
 -- A plain acquire of the free record and a release are back at the free record.
 pub acquire-then-release : (tid : ℕ) → (acquire freeRecord tid ≡ answer OK (takenBy tid)) × (release (takenBy tid) tid ≡ answer OK freeRecord)
-unfolding operate validRecord situationOf codeOf after
+unfolding operate validRecord situationAt codeOf after
 acquire-then-release tid = (refl, release-held (takenBy tid) tid (taken-held tid))
 
 -- ---- n acquires, n releases
@@ -171,16 +196,16 @@ at-depth-held n tid h = record { owner = refl; some = omega arith; most = h }
 
 -- Below 255 a nested acquire goes one deeper.
 pub nested-deeper : (n tid : ℕ) → n < maxNestDepth → acquireNested (atDepth n tid) tid ≡ answer OK (atDepth (suc n) tid)
-unfolding operate validRecord situationOf codeOf after
+unfolding operate validRecord situationAt codeOf after
 nested-deeper zero tid h = refl
 nested-deeper (suc n) tid h =
     let s = atDepth (suc n) tid in
-    operated Nested s tid (held-valid s tid refl (omega arith) (omega arith)) (below-is-own s tid refl h)
+    operated Nested s tid false (held-valid s tid refl (omega arith) (omega arith)) (below-is-own s tid refl h)
     ∙ ap (λ (d : ℕ). answer OK (record { owner = Thread tid; «nest_count» = d; «irq_saved» = true })) (add-one (suc n))
 
 -- At 255 it goes no further.
 pub nested-no-further : (tid : ℕ) → acquireNested (atDepth maxNestDepth tid) tid ≡ answer EBUSY (atDepth maxNestDepth tid)
-unfolding operate validRecord situationOf codeOf after
+unfolding operate validRecord situationAt codeOf after
 nested-no-further tid = rw (eq-eqb tid tid refl)
 
 -- A release goes one back.
@@ -223,17 +248,41 @@ pub fewer-do-not : (n k tid : ℕ) → n ≤ maxNestDepth → k < n → isFree (
 unfolding read validRecord
 fewer-do-not n k tid h l =
     let some : n - k ≡ suc (n - suc k) = omega arith in
-    ap isFree (released-reaches n k tid h (omega arith) ∙ ap (λ (m : ℕ). atDepth m tid) some) ∙ rw (lt-ltb 0 (suc (n - suc k)) (omega arith), le-leb (suc (n - suc k)) maxNestDepth (omega arith))
+    ap isFree (released-reaches n k tid h (omega arith) ∙ ap (λ (m : ℕ). atDepth m tid) some)
+    ∙ rw (lt-ltb 0 (suc (n - suc k)) (omega arith), le-leb (suc (n - suc k)) maxNestDepth (omega arith))
 
 -- ---- a held lock and a plain acquire
 
 -- Upstream's lemma_double_acquire_rejected: a plain acquire of a held lock is refused to every thread, its owner too.
 pub plain-acquire-of-held : (s : SpinlockState) (tid : ℕ) → validRecord s ≡ true → held (s .owner) ≡ true → acquire s tid ≡ answer EBUSY s
 unfolding codeOf after
-plain-acquire-of-held s tid valid taken = operated Acquire s tid valid refl ∙ by (view s tid valid)
+plain-acquire-of-held s tid valid taken = operated Acquire s tid false valid refl ∙ by (view s tid false valid)
   where
     by : {sit : Situation} → View s tid sit → answer (codeOf Acquire sit) (after Acquire sit s tid) ≡ answer EBUSY s
     by (free e) = absurd (false≢true (sym (ap (λ (r : SpinlockState). held (r .owner)) e) ∙ taken))
     by (own _ _) = refl
     by (full _ _) = refl
-    by (foreign _ _ _) = refl
+    by (foreign _ _) = refl
+
+-- ---- a thread elsewhere
+
+-- Elsewhere the owner is refused as another thread is.
+pub own-elsewhere : (op : Operation) (s : SpinlockState) (tid : ℕ) → validRecord s ≡ true → s .owner ≡ Thread tid
+    → operate op s tid true ≡ answer (codeOf op Foreign) s
+unfolding situationAt after
+own-elsewhere op s tid valid mine = operated op s tid true valid (simp (mine, eq-eqb tid tid refl)) ∙ ap (answer (codeOf op Foreign)) (stays op)
+  where
+    stays : (o : Operation) → after o Foreign s tid ≡ s
+    stays Acquire = refl
+    stays Nested = refl
+    stays Release = refl
+
+-- To a thread that is not the owner it is no matter.
+pub others-elsewhere : (op : Operation) (s : SpinlockState) (tid : ℕ) → owns (s .owner) tid ≡ false → operate op s tid true ≡ operate op s tid false
+unfolding operate situationAt
+others-elsewhere op s tid other =
+    ap (λ (sit : Situation). cond (validRecord s) (answer (codeOf op sit) (after op sit s tid)) (answer EINVAL s)) (by (s .owner) other)
+  where
+    by : (o : Owner) → owns o tid ≡ false → situationBy o (s .«nest_count») tid true ≡ situationBy o (s .«nest_count») tid false
+    by None e = refl
+    by (Thread t) e = rw e

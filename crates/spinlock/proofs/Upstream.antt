@@ -10,7 +10,27 @@ use borrow.Author.Tests.{eq-eqb, ne-eqb, lt-ltb, le-leb, ltb-false, eqb-true}
 use Rattle.error.specs.Codes.{OK, EPERM, EBUSY}
 use Rattle.error.specs.Answer.{answer}
 use Rattle.spinlock.specs.Table.{codeOf}
-use Rattle.spinlock.specs.Lock.{maxNestDepth, freeRecord, takenBy, deeper, validBy, validRecord, after, acquire, acquireNested, release, held, owns, read, acquireCheck, isHeld, isFree, nestDepth, ownerGet, isOwner}
+use Rattle.spinlock.specs.Lock.{
+  maxNestDepth,
+  freeRecord,
+  takenBy,
+  deeper,
+  validBy,
+  validRecord,
+  after,
+  acquire,
+  acquireNested,
+  release,
+  held,
+  owns,
+  read,
+  acquireCheck,
+  isHeld,
+  isFree,
+  nestDepth,
+  ownerGet,
+  isOwner,
+}
 use Rattle.spinlock.specs.declared.Owner.{Owner}
 use Rattle.spinlock.specs.declared.Owner.the-variants.{None, Thread}
 use Rattle.spinlock.specs.declared.SpinlockState.{SpinlockState}
@@ -34,13 +54,13 @@ held-inv s t mine =
     }
 
 pub valid-inv : (s : SpinlockState) → validRecord s ≡ true → Inv s
-valid-inv s valid = by (view s 0 valid)
+valid-inv s valid = by (view s 0 false valid)
   where
     by : {sit : Situation} → View s 0 sit → Inv s
     by (free e) = subst Inv (sym e) (record { present = refl; bounded = omega arith; flag = λ _. refl })
     by (own mine _) = held-inv s 0 mine
     by (full mine _) = held-inv s 0 mine
-    by (foreign t theirs _) = held-inv s t theirs
+    by (foreign t theirs) = held-inv s t theirs
 
 pub inv-valid : (s : SpinlockState) → Inv s → validRecord s ≡ true
 unfolding validRecord
@@ -69,7 +89,7 @@ module _ (s : SpinlockState) (tid : ℕ) (valid : validRecord s ≡ true) where
   -- acquire: free gives owner, depth 1 and the flag; held is EBUSY and changes nothing.
   pub acquire-free : s .owner ≡ None → acquire s tid ≡ answer OK (takenBy tid)
   unfolding codeOf after
-  acquire-free e = operated Acquire s tid valid (none-is-free s tid e)
+  acquire-free e = operated Acquire s tid false valid (none-is-free s tid e)
 
   pub acquire-held : (t : ℕ) → s .owner ≡ Thread t → acquire s tid ≡ answer EBUSY s
   acquire-held t e = plain-acquire-of-held s tid valid (ap held e)
@@ -77,28 +97,28 @@ module _ (s : SpinlockState) (tid : ℕ) (valid : validRecord s ≡ true) where
   -- acquire_nested: free; the same owner with room; the same owner at the greatest depth; another owner. The flag stays in the last three.
   pub nested-free : s .owner ≡ None → acquireNested s tid ≡ answer OK (takenBy tid)
   unfolding codeOf after
-  nested-free e = operated Nested s tid valid (none-is-free s tid e)
+  nested-free e = operated Nested s tid false valid (none-is-free s tid e)
 
   pub nested-own : s .owner ≡ Thread tid → s .«nest_count» < maxNestDepth → acquireNested s tid ≡ answer OK (deeper s)
   unfolding codeOf after
-  nested-own e below = operated Nested s tid valid (below-is-own s tid e below)
+  nested-own e below = operated Nested s tid false valid (below-is-own s tid e below)
 
   pub nested-full : s .owner ≡ Thread tid → maxNestDepth ≤ s .«nest_count» → acquireNested s tid ≡ answer EBUSY s
   unfolding codeOf after
-  nested-full e deepest = operated Nested s tid valid (deepest-is-full s tid e deepest)
+  nested-full e deepest = operated Nested s tid false valid (deepest-is-full s tid e deepest)
 
   pub nested-other : (t : ℕ) → s .owner ≡ Thread t → (t ≡ tid → ⊥) → acquireNested s tid ≡ answer EBUSY s
   unfolding codeOf after
-  nested-other t e other = operated Nested s tid valid (other-is-foreign s tid t e other)
+  nested-other t e other = operated Nested s tid false valid (other-is-foreign s tid t e other)
 
   -- release: not the owner is EPERM and changes nothing; the owner at depth 1 frees it; deeper, the owner gives back one level.
   pub release-free : s .owner ≡ None → release s tid ≡ answer EPERM s
   unfolding codeOf after
-  release-free e = operated Release s tid valid (none-is-free s tid e)
+  release-free e = operated Release s tid false valid (none-is-free s tid e)
 
   pub release-other : (t : ℕ) → s .owner ≡ Thread t → (t ≡ tid → ⊥) → release s tid ≡ answer EPERM s
   unfolding codeOf after
-  release-other t e other = operated Release s tid valid (other-is-foreign s tid t e other)
+  release-other t e other = operated Release s tid false valid (other-is-foreign s tid t e other)
 
   pub release-last : s .owner ≡ Thread tid → s .«nest_count» ≡ 1 → release s tid ≡ answer OK freeRecord
   release-last e one =

@@ -16,13 +16,15 @@ use Rattle.spinlock.specs.declared.Situation.{Situation}
 use Rattle.spinlock.specs.declared.Situation.the-variants.{Free, Own, Full, Foreign}
 use Rattle.spinlock.specs.Table.{codeOf}
 
--- What the results say, in 01's terms: a code and a record, a depth or an owner.
+-- What a changed record says, in 01's terms: a code and the record after it.
 abbrev pub changedSays : Changed → Answer SpinlockState
 changedSays a = answer (numberOf (a .code)) (a .state)
 
+-- What a depth says: a code and a number.
 abbrev pub depthSays : Depth → Answer ℕ
 depthSays a = answer (numberOf (a .code)) (a .depth)
 
+-- What an owner read says: a code and an owner.
 abbrev pub ownerSays : OwnerRead → Answer Owner
 ownerSays a = answer (numberOf (a .code)) (a .owner)
 
@@ -53,16 +55,19 @@ abbrev pub validBy : Owner → ℕ → Bool → Bool
 validBy None depth flag = eqb depth 0 && not flag
 validBy (Thread t) depth flag = ltb 0 depth && leb depth maxNestDepth
 
+-- The record is valid.
 unfoldable pub validRecord : SpinlockState → Bool
 validRecord s = validBy (s .owner) (s .«nest_count») (s .«irq_saved»)
 
--- Free, the owner's below 255, the owner's at 255, or another's.
-abbrev pub situationBy : Owner → ℕ → ℕ → Situation
-situationBy None depth tid = Free
-situationBy (Thread t) depth tid = cond (eqb t tid) (cond (ltb depth maxNestDepth) Own Full) Foreign
+-- Free, the owner's below 255, the owner's at 255, or another's. The right thread elsewhere, on another CPU than the lock was taken on, is as
+-- another thread.
+abbrev pub situationBy : Owner → ℕ → ℕ → Bool → Situation
+situationBy None depth tid elsewhere = Free
+situationBy (Thread t) depth tid elsewhere = cond (eqb t tid) (cond elsewhere Foreign (cond (ltb depth maxNestDepth) Own Full)) Foreign
 
-unfoldable pub situationOf : SpinlockState → ℕ → Situation
-situationOf s tid = situationBy (s .owner) (s .«nest_count») tid
+-- What a record is to a thread.
+unfoldable pub situationAt : SpinlockState → ℕ → Bool → Situation
+situationAt s tid elsewhere = situationBy (s .owner) (s .«nest_count») tid elsewhere
 
 -- The record after an operation in a situation. What is refused stays as it was.
 unfoldable pub after : Operation → Situation → SpinlockState → ℕ → SpinlockState
@@ -80,17 +85,21 @@ after Release Full s tid = shallower s
 after Release Foreign s tid = s
 
 -- A call that changes a record: an invalid one is EINVAL, handed back as given.
-unfoldable pub operate : Operation → SpinlockState → ℕ → Answer SpinlockState
-operate op s tid = cond (validRecord s) (answer (codeOf op (situationOf s tid)) (after op (situationOf s tid) s tid)) (answer EINVAL s)
+unfoldable pub operate : Operation → SpinlockState → ℕ → Bool → Answer SpinlockState
+operate op s tid elsewhere =
+    cond (validRecord s) (answer (codeOf op (situationAt s tid elsewhere)) (after op (situationAt s tid elsewhere) s tid)) (answer EINVAL s)
 
+-- acquire: free is taken; held is EBUSY, for the owner also. Nobody is elsewhere.
 abbrev pub acquire : SpinlockState → ℕ → Answer SpinlockState
-acquire = operate Acquire
+acquire s tid = operate Acquire s tid false
 
+-- acquire_nested: as acquire when free; the owner below 255 gains one; the owner at 255, or another thread, EBUSY.
 abbrev pub acquireNested : SpinlockState → ℕ → Answer SpinlockState
-acquireNested = operate Nested
+acquireNested s tid = operate Nested s tid false
 
+-- release: the owner loses one level, and at depth 1 frees the lock; else EPERM, for a free lock too.
 abbrev pub release : SpinlockState → ℕ → Answer SpinlockState
-release = operate Release
+release s tid = operate Release s tid false
 
 -- A call that reads a record: an invalid one is EINVAL, with 0, none or no.
 unfoldable pub read : {A : Type 0} → SpinlockState → A → A → Answer A
@@ -106,23 +115,27 @@ abbrev pub owns : Owner → ℕ → Bool
 owns None tid = false
 owns (Thread t) tid = eqb t tid
 
--- acquire_check and is_free say yes exactly if free, is_held exactly if not.
+-- is_free: yes exactly if free.
 abbrev pub isFree : SpinlockState → Answer Bool
 isFree s = read s (not (held (s .owner))) false
 
+-- acquire_check: the same, whoever asks.
 abbrev pub acquireCheck : SpinlockState → ℕ → Answer Bool
 acquireCheck s tid = isFree s
 
+-- is_held: yes exactly if not free.
 abbrev pub isHeld : SpinlockState → Answer Bool
 isHeld s = read s (held (s .owner)) false
 
--- nest_depth, owner_get and is_owner report the fields.
+-- nest_depth reports the depth.
 abbrev pub nestDepth : SpinlockState → Answer ℕ
 nestDepth s = read s (s .«nest_count») 0
 
+-- owner_get reports the owner.
 abbrev pub ownerGet : SpinlockState → Answer Owner
 ownerGet s = read s (s .owner) None
 
+-- is_owner: yes exactly if the owner is the thread.
 abbrev pub isOwner : SpinlockState → ℕ → Answer Bool
 isOwner s tid = read s (owns (s .owner) tid) false
 

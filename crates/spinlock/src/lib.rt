@@ -4,10 +4,11 @@
 //   init -> new; acquire_check, acquire, acquire_nested, release, is_held, is_free, nest_depth, owner_get, is_owner keep their names
 //   release_check is named upstream and stands in no file: here it says whether the given thread owns the record
 //   set_owner is named upstream and stands in no file: spinlock_validate::spin_lock_compute_owner stands for it
+//   operate is new: acquire, acquire_nested and release in one, for a thread that may be on another CPU than it took the lock on
 // What upstream requires, a valid record, is tested here: an invalid one is EINVAL in every call and comes back as given. A caller can
 // rely on these (proofs/Laws.antt): no call makes a valid record invalid, a refusal changes nothing, and a release undoes an acquire.
 ghost use mathlib.Core.Path.{_≡_};
-ghost use mathlib.Core.Bool.{true, false};
+ghost use mathlib.Core.Bool.{Bool, true, false};
 ghost use Prim.Native.Nat.{_<_};
 ghost use Rattle.error.specs.Codes.{numberOf};
 ghost use Rattle.error.specs.Answer.{yesNoSays};
@@ -27,7 +28,7 @@ ghost use Rattle.spinlock.specs.Lock.{
   owns,
   read,
   validRecord,
-  situationOf,
+  situationAt,
   acquireCheck,
   acquire,
   acquireNested,
@@ -83,7 +84,8 @@ pub enum Operation {
     Release,
 }
 
-// What a valid record is to a thread that asks: free, its own with room to nest, its own and full, or another's.
+// What a valid record is to a thread that asks: free, its own with room to nest, its own and full, or another's. Its own counts as another's
+// where it asks from another CPU than it took the lock on.
 pub enum Situation {
     Free,
     Own,
@@ -120,7 +122,7 @@ fn column(situation: Situation) -> usize
 }
 
 // The code of an operation in a situation.
-pub fn code_of(operation: Operation, situation: Situation) -> Code
+fn code_of(operation: Operation, situation: Situation) -> Code
     ensures { λ r. ⌜ numberOf r ≡ codeOf operation situation ⌝ }
 {
     let i = row(operation);
@@ -175,14 +177,17 @@ impl SpinlockState {
     }
 
     // What the record is to a thread.
-    pub fn situation(self, tid: u32) -> Situation
-        ensures { λ r. ⌜ r ≡ situationOf self tid ⌝ }
+    fn situation(self, tid: u32, elsewhere: bool) -> Situation
+        ensures { λ r. ⌜ r ≡ situationAt self tid elsewhere ⌝ }
     {
         let owner = self.owner;
         match owner {
             Owner::None => Situation::Free,
             Owner::Thread(holder) => {
                 if holder != tid {
+                    return Situation::Foreign;
+                }
+                if elsewhere {
                     return Situation::Foreign;
                 }
                 if self.nest_count < MAX_NEST_DEPTH {
@@ -220,7 +225,7 @@ impl SpinlockState {
     // The record after an operation in a situation. What is refused stays as it was.
     fn after(self, operation: Operation, situation: Situation, tid: u32) -> SpinlockState
         requires { ⌜ validRecord self ≡ true ⌝ }
-        requires { ⌜ situation ≡ situationOf self tid ⌝ }
+        requires { ⌜ ((elsewhere : Bool) × (situation ≡ situationAt self tid elsewhere)) ⌝ }
         ensures { λ r. ⌜ r ≡ Lock·after operation situation self tid ⌝ }
     {
         match operation {
@@ -245,9 +250,10 @@ impl SpinlockState {
         }
     }
 
-    // An operation: its code comes from the table, and an invalid record comes back as given.
-    fn operate(self, operation: Operation, tid: u32) -> Changed
-        ensures { λ r. ⌜ changedSays r ≡ Lock·operate operation self tid ⌝ }
+    // An operation by a thread, which may be elsewhere: on another CPU than it took the lock on, where it is not the owner. An invalid record
+    // is refused first and comes back as given; the code of any other comes from the table.
+    pub fn operate(self, operation: Operation, tid: u32, elsewhere: bool) -> Changed
+        ensures { λ r. ⌜ changedSays r ≡ Lock·operate operation self tid elsewhere ⌝ }
     {
         if !self.valid() {
             return Changed {
@@ -255,7 +261,7 @@ impl SpinlockState {
                 state: self,
             };
         }
-        let situation = self.situation(tid);
+        let situation = self.situation(tid, elsewhere);
         Changed {
             code: code_of(operation, situation),
             state: self.after(operation, situation, tid),
@@ -266,21 +272,21 @@ impl SpinlockState {
     pub fn acquire(self, tid: u32) -> Changed
         ensures { λ r. ⌜ changedSays r ≡ acquire self tid ⌝ }
     {
-        self.operate(Operation::Acquire, tid)
+        self.operate(Operation::Acquire, tid, false)
     }
 
     // Takes a free lock, or goes one level deeper for its owner. At the greatest depth, or held by another thread, it is busy.
     pub fn acquire_nested(self, tid: u32) -> Changed
         ensures { λ r. ⌜ changedSays r ≡ acquireNested self tid ⌝ }
     {
-        self.operate(Operation::Nested, tid)
+        self.operate(Operation::Nested, tid, false)
     }
 
     // Gives back one level, for the owner alone.
     pub fn release(self, tid: u32) -> Changed
         ensures { λ r. ⌜ changedSays r ≡ release self tid ⌝ }
     {
-        self.operate(Operation::Release, tid)
+        self.operate(Operation::Release, tid, false)
     }
 
     fn has_owner(self) -> bool

@@ -99,7 +99,8 @@ unfolding spinLockValid
 lock-own k cpu thread word made =
     let m = made-by k cpu thread word made in
     let t = m .0 in
-    rw (m .1, lt-ltb cpu (2 ^ k) (t .below), ne-eqb (wordOf cpu thread) 0 (word-some k cpu thread t), eq-eqb (cpuOf k (wordOf cpu thread)) cpu (cpu-back k cpu thread t))
+    let own = eq-eqb (cpuOf k (wordOf cpu thread)) cpu (cpu-back k cpu thread t) in
+    rw (m .1, lt-ltb cpu (2 ^ k) (t .below), ne-eqb (wordOf cpu thread) 0 (word-some k cpu thread t), own)
 
 -- It is valid to lock for every other CPU.
 pub lock-other : (k cpu thread word c : ℕ) → Makes k cpu thread word → c < 2 ^ k → (c ≡ cpu → ⊥) → spinLockValid k word c ≡ answer OK true

@@ -1,30 +1,42 @@
 // The operations of a log on a thread: its mask, its pin, its priority, and the CPUs to interrupt for it. Each is a small function from the
 // values of the cells that it names to their new values and an answer. A rule never sees the machine, so it reads and writes nothing else.
 //
-// New here; the definitions are in the crate rules, masks go by the crate cpu_mask, interrupts by ipi. A refusal hands every cell back as it was.
+// New here; the definitions are in the crate rules, masks go by the crate cpu_mask, interrupts by ipi. A caller can rely on this: a refusal, of
+// numbers that no record may carry too, hands the thread's cell back as it was.
 ghost use mathlib.Core.Path.{_≡_};
+ghost use mathlib.Core.Bool.{_&&_, cond};
+ghost use Rattle.error.specs.Codes.{EINVAL};
+ghost use Rattle.error.specs.Answer.{answer};
 ghost use Rattle.cpu_mask.specs.Mask.{maskSays};
+ghost use Rattle.machine.specs.State.{hasCpu};
 ghost use Rattle.order.specs.Outcome.{appliedTo};
 ghost use Rattle.rules.specs.Rules.{
   threadSays,
-  valueSays,
+  answeredSays,
   cpuBit,
   cpuRecord,
   remasked as Rules·remasked,
   mask as Rules·mask,
   pin as Rules·pin,
   priority as Rules·priority,
-  ipi as Rules·ipi,
+  ranged,
+  carriable as Rules·carriable,
+  onThread,
+  cpuRecords,
+  ipiOf,
 };
 use cpu_mask::CpuMaskResult;
 use cpu_mask::PinMask;
 use error::Code;
 use ipi::CpuRecord;
+use machine::CPU_SLOTS;
+use machine::Cpu;
 use machine::CpuId;
-use machine::Run;
+use machine::Setup;
 use machine::Thread;
+use record::ThreadOperation;
+use rules::Answered;
 use rules::ThreadOut;
-use rules::ValueOut;
 
 // A thread with the mask that the mask rule gave, or as it was.
 fn remasked(thread: Thread, a: CpuMaskResult) -> ThreadOut
@@ -33,29 +45,33 @@ fn remasked(thread: Thread, a: CpuMaskResult) -> ThreadOut
     let code = a.error;
     if !error::is_ok(code) {
         return ThreadOut {
-            code,
-            value: a.mask,
+            answer: Answered {
+                code,
+                value: a.mask,
+            },
             thread,
         };
     }
     let mut next = thread;
     next.mask = a.mask;
     ThreadOut {
-        code: Code::Ok,
-        value: a.mask,
+        answer: Answered {
+            code: Code::Ok,
+            value: a.mask,
+        },
         thread: next,
     }
 }
 
 // 7: bits of a thread's mask are enabled and disabled.
-pub fn mask(enable: u32, disable: u32, pin_only: bool, thread: Thread) -> ThreadOut
-    ensures { λ r. ⌜ threadSays r ≡ appliedTo thread (Rules·mask enable disable «pin_only» thread) ⌝ }
+fn mask(setup: Setup, enable: u32, disable: u32, thread: Thread) -> ThreadOut
+    ensures { λ r. ⌜ threadSays r ≡ appliedTo thread (Rules·mask setup enable disable thread) ⌝ }
 {
     let place = thread.place;
     let running = rules::is_placed(place);
     remasked(
         thread,
-        cpu_mask::cpu_mask_mod(thread.mask, enable, disable, running, pin_only),
+        cpu_mask::cpu_mask_mod(thread.mask, enable, disable, running, setup.pin_only),
     )
 }
 
@@ -69,66 +85,122 @@ fn cpu_bit(c: CpuId) -> u32
 }
 
 // 8: one bit of a thread's mask is left.
-pub fn pin(c: CpuId, pin_only: bool, thread: Thread) -> ThreadOut
-    ensures { λ r. ⌜ threadSays r ≡ appliedTo thread (Rules·pin (c .0) «pin_only» thread) ⌝ }
+fn pin(setup: Setup, c: CpuId, thread: Thread) -> ThreadOut
+    ensures { λ r. ⌜ threadSays r ≡ appliedTo thread (Rules·pin setup (c .0) thread) ⌝ }
 {
     let bit = cpu_bit(c);
-    mask(bit, !bit, pin_only, thread)
+    mask(setup, bit, !bit, thread)
 }
 
 // 9: a thread's priority is set.
-pub fn priority(a: i32, thread: Thread) -> ThreadOut
+fn priority(a: i32, thread: Thread) -> ThreadOut
     ensures { λ r. ⌜ threadSays r ≡ appliedTo thread (Rules·priority a thread) ⌝ }
 {
     let place = thread.place;
     if rules::is_placed(place) {
         return ThreadOut {
-            code: Code::Ebusy,
-            value: 0,
+            answer: Answered {
+                code: Code::Ebusy,
+                value: 0,
+            },
             thread,
         };
     }
     let mut next = thread;
     next.priority = a;
     ThreadOut {
-        code: Code::Ok,
-        value: 0,
+        answer: Answered {
+            code: Code::Ok,
+            value: 0,
+        },
         thread: next,
     }
 }
 
-fn cpu_record(run: Run) -> CpuRecord
-    ensures { λ r. ⌜ r ≡ cpuRecord run ⌝ }
+// Whether a priority is one that a record may carry.
+fn carriable(operation: ThreadOperation) -> bool
+    ensures { λ r. ⌜ r ≡ Rules·carriable operation ⌝ }
 {
+    match operation {
+        ThreadOperation::Mask {
+            enable: _,
+            disable: _,
+        } => true,
+        ThreadOperation::Pin => true,
+        ThreadOperation::Priority(a) => machine::is_priority(a),
+    }
+}
+
+// 7, 8 and 9, on a machine of this setup: the thread after the operation.
+pub fn on_thread(setup: Setup, operation: ThreadOperation, c: CpuId, thread: Thread) -> ThreadOut
+    ensures { λ r. ⌜ threadSays r ≡ ranged (hasCpu setup (c .0) && Rules·carriable operation) thread (onThread setup operation (c .0) thread) ⌝ }
+{
+    if !(setup.has_cpu(c) & carriable(operation)) {
+        return ThreadOut {
+            answer: Answered {
+                code: Code::Einval,
+                value: 0,
+            },
+            thread,
+        };
+    }
+    match operation {
+        ThreadOperation::Mask { enable, disable } => mask(setup, enable, disable, thread),
+        ThreadOperation::Pin => pin(setup, c, thread),
+        ThreadOperation::Priority(a) => priority(a, thread),
+    }
+}
+
+fn cpu_record(cpu: Cpu) -> CpuRecord
+    ensures { λ r. ⌜ r ≡ cpuRecord (cpu .run) ⌝ }
+{
+    let run = cpu.run;
     CpuRecord {
         active: run.active,
         priority: run.priority,
     }
 }
 
-// 10: the CPUs to interrupt for a thread.
-pub fn ipi(c: CpuId, n: u32, r0: Run, r1: Run, r2: Run, r3: Run, thread: Thread) -> ValueOut
-    ensures { λ r. ⌜ valueSays r ≡ Rules·ipi (c .0) n r0 r1 r2 r3 thread ⌝ }
+// The CPU records of a machine's slots, and of nobody past them.
+fn cpu_records(cpus: [Cpu; CPU_SLOTS]) -> [CpuRecord; 16]
+    ensures { λ r. ⌜ r ≡ cpuRecords cpus ⌝ }
 {
     let nobody = CpuRecord {
         active: false,
         priority: 0,
     };
-    let mut cpus = [nobody; 16];
-    cpus[0] = cpu_record(r0);
-    cpus[1] = cpu_record(r1);
-    cpus[2] = cpu_record(r2);
-    cpus[3] = cpu_record(r3);
+    let mut records = [nobody; 16];
+    let k0 = cpus[0];
+    let k1 = cpus[1];
+    let k2 = cpus[2];
+    let k3 = cpus[3];
+    records[0] = cpu_record(k0);
+    records[1] = cpu_record(k1);
+    records[2] = cpu_record(k2);
+    records[3] = cpu_record(k3);
+    records
+}
+
+// 10: the CPUs to interrupt for a thread, on a machine of this setup with these CPUs.
+pub fn ipi(setup: Setup, c: CpuId, cpus: [Cpu; CPU_SLOTS], thread: Thread) -> Answered
+    ensures { λ r. ⌜ answeredSays r ≡ cond (hasCpu setup (c .0)) (ipiOf setup (c .0) cpus thread) (answer EINVAL 0) ⌝ }
+{
+    if !setup.has_cpu(c) {
+        return Answered {
+            code: Code::Einval,
+            value: 0,
+        };
+    }
     let a = ipi::compute_ipi_mask(
         c.0,
         thread.priority,
         thread.mask,
-        cpus,
-        n,
+        cpu_records(cpus),
+        setup.n,
         ipi::MAX_IPI_CPUS,
     );
     let code = a.code;
-    ValueOut {
+    Answered {
         code,
         value: a.mask,
     }

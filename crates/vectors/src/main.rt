@@ -91,8 +91,8 @@ fn agree(out: &[u8], size: usize, expected: &[u8], k: usize) -> bool {
 fn compare(input: &[u8], n: usize, expected: &[u8], k: usize) {
     let mut out = [0u8; 16384];
     if n <= input.len() {
-        let size = program::respond(&input[..n], &mut out);
-        verdict(agree(&out, size, expected, k));
+        let response = program::respond(&input[..n], &mut out);
+        verdict(agree(&out, response.size, expected, k));
         return;
     }
     verdict(false);
@@ -107,7 +107,7 @@ fn byte_at(s: &[u8], i: usize) -> u8 {
 fn word_at(s: &[u8], at: usize) -> u32
     requires { ⌜ at < 1000 ⌝ }
 {
-    record::join(
+    high_first::join(
         byte_at(s, at),
         byte_at(s, at + 1),
         byte_at(s, at + 2),
@@ -145,7 +145,7 @@ fn called(input: &[u8], room: &mut [u8]) -> i32 {
         6 => kernel::hubcrackle_cpu_pin_compute(a, b, room),
         7 => {
             let cpus = rest_of(input, 22);
-            kernel::hubcrackle_compute_ipi_mask(a, record::signed(b), c, cpus, d, e, room)
+            kernel::hubcrackle_compute_ipi_mask(a, high_first::signed(b), c, cpus, d, e, room)
         }
         _ => kernel::hubcrackle_validate_ipi_mask(a, b, c, room),
     }
@@ -159,7 +159,7 @@ fn compare_call(input: &[u8], expected: &[u8], room: &mut [u8]) {
         return;
     }
     let code = called(input, &mut room[..len]);
-    if code == record::signed(word_at(expected, 0)) {
+    if code == high_first::signed(word_at(expected, 0)) {
         verdict(check::same(room, rest_of(expected, 4)));
     } else {
         verdict(false);

@@ -8,17 +8,18 @@ use lib.Count.{ones}
 use lib.IntN.{pos}
 use lib.ListN.{set, replicate}
 use Rattle.words.specs.Bit.{bit}
+use Rattle.words.specs.Below.{allBelow}
 use Rattle.spinlock.specs.Lock.{freeRecord, validRecord}
 use Rattle.spinlock.specs.declared.Owner.{Owner}
-use Rattle.machine.specs.State.{cpuSlots, threadCount, lockCount, idleRun, threadMask, freshMachine}
+use Rattle.machine.specs.State.{cpuSlots, threadCount, lockCount, isPriority, idleRun, threadMask, freshMachine, freshThreads}
 use Rattle.machine.specs.declared.Cpu.{Cpu}
 use Rattle.machine.specs.declared.Current.{Current}
 use Rattle.machine.specs.declared.Place.{Place}
 use Rattle.machine.specs.declared.Thread.{Thread}
 use Rattle.machine.specs.declared.Lock.{Lock}
+use Rattle.machine.specs.declared.Setup.{Setup}
 use Rattle.machine.specs.declared.Machine.{Machine}
 use Rattle.wellformed.specs.WellFormed.{
-  allBelow,
   sumBelow,
   sizeOk,
   slotOk,
@@ -46,15 +47,19 @@ clauses m =
     ∷ allBelow (maskOk m) threadCount
     ∷ []
 
+-- The fresh machine of n CPUs.
+abbrev fresh : ℕ → Bool → Machine
+fresh n pinOnly = let k : Setup = record { n = n; «pin_only» = pinOnly } in freshMachine k (freshThreads k)
+
 -- A machine with one cell changed: CPU c, thread 0, or lock 0.
 abbrev withCpu : ℕ → Cpu → Machine → Machine
-withCpu c v m = record { n = m .n; «pin_only» = m .«pin_only»; cpus = set (m .cpus) c v; threads = m .threads; locks = m .locks }
+withCpu c v m = record { setup = m .setup; cpus = set (m .cpus) c v; threads = m .threads; locks = m .locks }
 
 abbrev withThread : Thread → Machine → Machine
-withThread v m = record { n = m .n; «pin_only» = m .«pin_only»; cpus = m .cpus; threads = set (m .threads) 0 v; locks = m .locks }
+withThread v m = record { setup = m .setup; cpus = m .cpus; threads = set (m .threads) 0 v; locks = m .locks }
 
 abbrev withLock : Lock → Machine → Machine
-withLock v m = record { n = m .n; «pin_only» = m .«pin_only»; cpus = m .cpus; threads = m .threads; locks = set (m .locks) 0 v }
+withLock v m = record { setup = m .setup; cpus = m .cpus; threads = m .threads; locks = set (m .locks) 0 v }
 
 -- ---- well-formed machines
 
@@ -63,57 +68,57 @@ abbrev holding : Machine
 holding =
     withCpu 0 (record { run = record { active = true; current = Current.Thread (record { 0 = 0 }); priority = pos 0 }; hold = 2 })
     (withThread (record { mask = 1; priority = pos 0; place = Place.On (record { 0 = 0 }) })
-    (withLock (record { state = record { owner = Owner.Thread 0; «nest_count» = 2; «irq_saved» = true }; word = 4 }) (freshMachine 1 true)))
+    (withLock (record { state = record { owner = Owner.Thread 0; «nest_count» = 2; «irq_saved» = true }; word = 4 }) (fresh 1 true)))
 
 pub these-are-well-formed :
     map wellFormed
-    (freshMachine 1 false ∷ freshMachine 1 true
-    ∷ freshMachine 2 false ∷ freshMachine 2 true
-    ∷ freshMachine 3 false ∷ freshMachine 3 true
-    ∷ freshMachine 4 false ∷ freshMachine 4 true
+    (fresh 1 false ∷ fresh 1 true
+    ∷ fresh 2 false ∷ fresh 2 true
+    ∷ fresh 3 false ∷ fresh 3 true
+    ∷ fresh 4 false ∷ fresh 4 true
     ∷ holding ∷ [])
     ≡ replicate 9 true
-unfolding wellFormed allBelow sumBelow freshMachine threadMask validRecord ones bit
+unfolding wellFormed allBelow sumBelow isPriority freshMachine threadMask validRecord ones bit
 these-are-well-formed = refl
 
 -- ---- machines that fail in one clause
 
 abbrev fiveCpus : Machine
-fiveCpus = freshMachine 5 false
+fiveCpus = fresh 5 false
 
 -- n is 1, and CPU 1 is up.
 abbrev unusedUp : Machine
-unusedUp = withCpu 1 (record { run = idleRun true; hold = 0 }) (freshMachine 1 false)
+unusedUp = withCpu 1 (record { run = idleRun true; hold = 0 }) (fresh 1 false)
 
 abbrev freeWithWord : Machine
-freeWithWord = withLock (record { state = freeRecord; word = 4 }) (freshMachine 1 false)
+freeWithWord = withLock (record { state = freeRecord; word = 4 }) (fresh 1 false)
 
 abbrev holdWithoutLock : Machine
-holdWithoutLock = withCpu 0 (record { run = idleRun true; hold = 1 }) (freshMachine 1 false)
+holdWithoutLock = withCpu 0 (record { run = idleRun true; hold = 1 }) (fresh 1 false)
 
 -- The CPU's priority is not its thread's.
 abbrev otherPriority : Machine
 otherPriority =
     withCpu 0 (record { run = record { active = true; current = Current.Thread (record { 0 = 0 }); priority = pos 1 }; hold = 0 })
-    (withThread (record { mask = 1; priority = pos 0; place = Place.On (record { 0 = 0 }) }) (freshMachine 1 false))
+    (withThread (record { mask = 1; priority = pos 0; place = Place.On (record { 0 = 0 }) }) (fresh 1 false))
 
 abbrev placedAndNotRun : Machine
-placedAndNotRun = withThread (record { mask = 1; priority = pos 0; place = Place.On (record { 0 = 0 }) }) (freshMachine 1 false)
+placedAndNotRun = withThread (record { mask = 1; priority = pos 0; place = Place.On (record { 0 = 0 }) }) (fresh 1 false)
 
 abbrev idleAtZero : Machine
-idleAtZero = withCpu 0 (record { run = record { active = true; current = Current.None; priority = pos 0 }; hold = 0 }) (freshMachine 1 false)
+idleAtZero = withCpu 0 (record { run = record { active = true; current = Current.None; priority = pos 0 }; hold = 0 }) (fresh 1 false)
 
 abbrev threadAt128 : Machine
-threadAt128 = withThread (record { mask = 1; priority = pos 128; place = Place.Nowhere }) (freshMachine 1 false)
+threadAt128 = withThread (record { mask = 1; priority = pos 128; place = Place.Nowhere }) (fresh 1 false)
 
 abbrev pinnedToTwo : Machine
-pinnedToTwo = withThread (record { mask = 3; priority = pos 0; place = Place.Nowhere }) (freshMachine 1 true)
+pinnedToTwo = withThread (record { mask = 3; priority = pos 0; place = Place.Nowhere }) (fresh 1 true)
 
 abbrev broken : List Machine
 broken = fiveCpus ∷ unusedUp ∷ freeWithWord ∷ holdWithoutLock ∷ otherPriority ∷ placedAndNotRun ∷ idleAtZero ∷ threadAt128 ∷ pinnedToTwo ∷ []
 
 pub these-are-not : map wellFormed broken ≡ replicate 9 false
-unfolding wellFormed allBelow sumBelow freshMachine threadMask validRecord ones bit
+unfolding wellFormed allBelow sumBelow isPriority freshMachine threadMask validRecord ones bit
 these-are-not = refl
 
 -- Each fails in its own clause, and in no other.
@@ -129,5 +134,5 @@ pub each-clause-alone :
     ∷ (true ∷ true ∷ true ∷ true ∷ true ∷ true ∷ true ∷ false ∷ true ∷ [])
     ∷ (true ∷ true ∷ true ∷ true ∷ true ∷ true ∷ true ∷ true ∷ false ∷ [])
     ∷ []
-unfolding allBelow sumBelow freshMachine threadMask validRecord ones bit
+unfolding allBelow sumBelow isPriority freshMachine threadMask validRecord ones bit
 each-clause-alone = refl

@@ -1,3 +1,4 @@
 pub mod Tests
+pub mod Sums
 pub mod Facts
 pub mod Examples

@@ -4,7 +4,22 @@ use mathlib.Core.Path.{_≡_, sym, ap, ap₂, _∙_}
 use mathlib.Core.Logic.{_⊎_, inl, inr}
 use mathlib.Core.Bool.{not}
 use Prim.Native.Nat.{ℕ, zero, suc, _+_, _*_, _/_, _%_, _^_, _≤_, _<_, min}
-use native.Mathlib.Nat.{div-one, div-div-eq-div-mul, pow-succ', mod-lt, one-mul, zero-mul, mul-one, mul-assoc, mul-comm, add-zero, min-zero, mod-eq-of-lt, div-eq-of-lt, div-lt-iff-lt-mul}
+use native.Mathlib.Nat.{
+  div-one,
+  div-div-eq-div-mul,
+  pow-succ',
+  mod-lt,
+  one-mul,
+  zero-mul,
+  mul-one,
+  mul-assoc,
+  mul-comm,
+  add-zero,
+  min-zero,
+  mod-eq-of-lt,
+  div-eq-of-lt,
+  div-lt-iff-lt-mul,
+}
 use native.Mathlib.Omega.{arith}
 use lib.Dec.{eqb, ltb, lit<}
 use lib.Pow.{pow-pos, pow-lt}

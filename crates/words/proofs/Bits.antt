@@ -5,7 +5,18 @@ use mathlib.Core.Path.{_≡_, sym, ap, ap₂, _∙_}
 use mathlib.Core.Logic.{_⊎_, inl, inr}
 use mathlib.Core.Bool.{Bool, true, false, not, _&&_, _||_}
 use Prim.Native.Nat.{ℕ, zero, suc, _+_, _-_, _*_, _/_, _%_, _^_, _≤_, _<_, min, max, suc-le-suc}
-use native.Mathlib.Nat.{div-one, div-div-eq-div-mul, pow-succ', mod-lt, zero-lt-suc, not-suc-le-zero, le-of-suc-le-suc, div-eq-of-lt, lt-of-lt-of-le, mul-div-left}
+use native.Mathlib.Nat.{
+  div-one,
+  div-div-eq-div-mul,
+  pow-succ',
+  mod-lt,
+  zero-lt-suc,
+  not-suc-le-zero,
+  le-of-suc-le-suc,
+  div-eq-of-lt,
+  lt-of-lt-of-le,
+  mul-div-left,
+}
 use native.Mathlib.Omega.{arith}
 use lib.Dec.{eqb, lit<, eqb·zero-suc, eqb·suc-zero, eqb·suc-suc}
 use lib.Arith.{lt-one}
@@ -120,5 +131,11 @@ bit-ext (suc w) a b ha hb e =
     same : (x y : ℕ) → (x ≡ 0) ⊎ (x ≡ 1) → (y ≡ 0) ⊎ (y ≡ 1) → eqb x 1 ≡ eqb y 1 → x ≡ y
     same x y (inl p) (inl q) e = p ∙ sym q
     same x y (inr p) (inr q) e = p ∙ sym q
-    same x y (inl p) (inr q) e = let z : false ≡ true = (sym (ap (λ (n : ℕ). eqb n 1) p) ∙ e ∙ ap (λ (n : ℕ). eqb n 1) q) in (let o : _≡_ {A = ℕ} 0 1 = cc in omega arith)
-    same x y (inr p) (inl q) e = let z : true ≡ false = (sym (ap (λ (n : ℕ). eqb n 1) p) ∙ e ∙ ap (λ (n : ℕ). eqb n 1) q) in (let o : _≡_ {A = ℕ} 0 1 = cc in omega arith)
+    same x y (inl p) (inr q) e =
+        let z : false ≡ true = sym (ap (λ (n : ℕ). eqb n 1) p) ∙ e ∙ ap (λ (n : ℕ). eqb n 1) q in
+        let o : _≡_ {A = ℕ} 0 1 = cc in
+        omega arith
+    same x y (inr p) (inl q) e =
+        let z : true ≡ false = sym (ap (λ (n : ℕ). eqb n 1) p) ∙ e ∙ ap (λ (n : ℕ). eqb n 1) q in
+        let o : _≡_ {A = ℕ} 0 1 = cc in
+        omega arith

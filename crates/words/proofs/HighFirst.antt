@@ -49,7 +49,8 @@ joined-parts before (b ∷ bs) small =
     let lead = joined-parts (0 * 256 + b) bs (λ i. small (suc i)) in
     let last : joined (0 * 256 + b) bs ≡ b * p + fromHighFirst bs = lead .0 ∙ ap (λ (x : ℕ). x * p + fromHighFirst bs) (zero-add b) in (
       rest .0 ∙ opened before b p (fromHighFirst bs) ∙ ap₂ (λ (x y : ℕ). before * x + y) (sym (more (length bs))) (sym last),
-      subst⁻¹ (λ (x : ℕ). x < 2 ^ (8 * suc (length bs))) last (subst⁻¹ (λ (x : ℕ). b * p + fromHighFirst bs < x) (more (length bs)) (digits-lt (small 0) (rest .1))),
+      subst⁻¹ (λ (x : ℕ). x < 2 ^ (8 * suc (length bs))) last
+          (subst⁻¹ (λ (x : ℕ). b * p + fromHighFirst bs < x) (more (length bs)) (digits-lt (small 0) (rest .1))),
     )
 
 pub from-high-first-lt : (bs : List ℕ) → AreBytes bs → fromHighFirst bs < 2 ^ (8 * length bs)

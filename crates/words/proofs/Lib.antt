@@ -6,3 +6,4 @@ pub mod BitsOf
 pub mod Tags
 pub mod HighFirst
 pub mod Signed
+pub mod Below

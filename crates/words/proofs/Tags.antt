@@ -1,10 +1,23 @@
 -- Laws of tags, over the tag's width k: the word gives back the CPU and the thread that made it, distinct pairs make distinct words, a word
--- is never 0 and at least 2 ^ k, and whatever is at least 2 ^ k was made by its own CPU and thread. Assumes nothing.
+-- is never 0 and at least 2 ^ k, and whatever is at least 2 ^ k was made by its own CPU and thread. The multiples 2 ^ k * (t + 1) are words of
+-- threads, one each. Assumes nothing.
 use mathlib.Core.Path.{_≡_, sym, ap, _∙_}
 use mathlib.Core.Logic.{_⊎_, inl, inr}
 use mathlib.Core.Bool.{true, not}
 use Prim.Native.Nat.{ℕ, _+_, _-_, _*_, _/_, _%_, _^_, _≤_, _<_}
-use native.Mathlib.Nat.{div-add-mod', mod-eq-of-lt, mod-eq-sub-mod, mod-lt, mod-le, mul-mod-left, pos-of-ne-zero, lt-of-not-le, le-of-suc-le-suc}
+use native.Mathlib.Nat.{
+  div-add-mod',
+  mod-eq-of-lt,
+  mod-eq-sub-mod,
+  mod-lt,
+  mod-le,
+  mul-mod-left,
+  mul-mod-right,
+  mul-div-cancel-left,
+  pos-of-ne-zero,
+  lt-of-not-le,
+  le-of-suc-le-suc,
+}
 use native.Mathlib.Omega.{arith}
 use lib.Bits.{bitAnd, bitOr, or-shifted, and-mask, and-high}
 use lib.Dec.{eqb, ltb}
@@ -105,3 +118,32 @@ pub thread-mask : (j k word : ℕ) → word < 2 ^ (j + k) → bitAnd word (bitNo
 thread-mask j k word h =
     let mask : bitNot (j + k) (2 ^ k - 1) ≡ 2 ^ (j + k) - 2 ^ k = omega (arith, pow-pos k) in
     ap (bitAnd word) mask ∙ and-high word j k ∙ ap (λ (n : ℕ). n * 2 ^ k) (shr-mod j k h) ∙ parts k word
+
+-- ---- thread t with the word 2 ^ k * (t + 1), which every CPU below 2 ^ k can tag
+
+-- A CPU that the tag can hold and a thread's word make an owner word.
+pub word-taggable : (k c t : ℕ) → c < 2 ^ k → Taggable k c (2 ^ k * (t + 1))
+word-taggable k c t h = record { below = h; some = omega (arith, pow-pos k); aligned = mul-mod-right (2 ^ k) (t + 1) }
+
+-- The CPU in it.
+pub word-cpu : (k c t : ℕ) → c < 2 ^ k → cpuOf k (wordOf c (2 ^ k * (t + 1))) ≡ c
+word-cpu k c t h = cpu-back k c (2 ^ k * (t + 1)) (word-taggable k c t h)
+
+-- The thread's word in it.
+pub word-thread : (k c t : ℕ) → c < 2 ^ k → threadOf k (wordOf c (2 ^ k * (t + 1))) ≡ 2 ^ k * (t + 1)
+word-thread k c t h = thread-back k c (2 ^ k * (t + 1)) (word-taggable k c t h)
+
+-- A thread's word is not 0.
+pub thread-nonzero : (k t : ℕ) → 2 ^ k * (t + 1) ≡ 0 → ⊥
+thread-nonzero k t e = omega (arith, pow-pos k)
+
+-- Nor is an owner word made from it, whatever the CPU.
+pub word-nonzero : (k c t : ℕ) → wordOf c (2 ^ k * (t + 1)) ≡ 0 → ⊥
+word-nonzero k c t e = thread-nonzero k t (omega arith)
+
+-- No two threads have the same word.
+pub thread-alone : (k t u : ℕ) → 2 ^ k * (t + 1) ≡ 2 ^ k * (u + 1) → t ≡ u
+thread-alone k t u e =
+    let same : t + 1 ≡ u + 1 =
+    sym (mul-div-cancel-left (t + 1) (pow-pos k)) ∙ ap (λ (n : ℕ). n / 2 ^ k) e ∙ mul-div-cancel-left (u + 1) (pow-pos k) in
+    omega arith

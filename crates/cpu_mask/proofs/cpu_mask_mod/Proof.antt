@@ -19,13 +19,15 @@ returns-2 : tie.Need-returns-2
 unfolding cpuMaskMod
 returns-2 c =
     let n = c .before .before .before in
-    simp (n .before .if1 .left, c .before .before .if2 .taken, ← n .new-mask .ensures, ← c .before .validate-pin-mask .ensures, not-true (c .before .validate-pin-mask .result) (c .if3 .taken))
+    let v = c .before .validate-pin-mask in
+    simp (n .before .if1 .left, c .before .before .if2 .taken, ← n .new-mask .ensures, ← v .ensures, not-true (v .result) (c .if3 .taken))
 
 returns-3 : tie.Need-returns-3
 unfolding cpuMaskMod
 returns-3 c =
     let n = c .before .before .before in
-    simp (n .before .if1 .left, c .before .before .if2 .taken, ← n .new-mask .ensures, ← c .before .validate-pin-mask .ensures, not-false (c .before .validate-pin-mask .result) (c .if3 .left))
+    let v = c .before .validate-pin-mask in
+    simp (n .before .if1 .left, c .before .before .if2 .taken, ← n .new-mask .ensures, ← v .ensures, not-false (v .result) (c .if3 .left))
 
 returns-4 : tie.Need-returns-4
 unfolding cpuMaskMod

@@ -15,14 +15,21 @@ is-occupied-requires c κs = search needs
 
 returns-2 : tie.Need-returns-2
 unfolding down
-returns-2 c = simp (not-false (c .before .before .before .before .args .run .active) (c .before .before .if1 .left), sym (c .before .is-occupied .ensures) ∙ c .if2 .taken)
+returns-2 c =
+    let s = c .before .before in
+    let active = not-false (s .before .before .args .run .active) (s .if1 .left) in
+    simp (active, sym (c .before .is-occupied .ensures) ∙ c .if2 .taken)
 
 idle-run-requires : tie.Need-idle-run-requires
 idle-run-requires c κs = search needs
 
 returns-3 : tie.Need-returns-3
 unfolding down
-returns-3 c = simp (not-false (c .before .before .before .before .before .args .run .active) (c .before .before .before .if1 .left), sym (c .before .before .is-occupied .ensures) ∙ c .before .if2 .left, c .idle-run .ensures)
+returns-3 c =
+    let k = c .before in
+    let s = k .before .before in
+    let active = not-false (s .before .before .args .run .active) (s .if1 .left) in
+    simp (active, sym (k .before .is-occupied .ensures) ∙ k .if2 .left, c .idle-run .ensures)
 
 pub down-spec : {M : Type 1} → statement M
 down-spec = tie.close (tie.spec returns is-occupied-requires returns-2 idle-run-requires returns-3)

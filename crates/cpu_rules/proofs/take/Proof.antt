@@ -24,7 +24,11 @@ idle-run-requires c κs = search needs
 
 returns-3 : tie.Need-returns-3
 unfolding take
-returns-3 c = simp (sym (c .before .before .before .before .is-current .ensures) ∙ not-false _ (c .before .before .before .if1 .left), eq-eqb _ _ (c .before .before .if2 .left), c .before .idle-run .ensures, toZ-ofZ w32 (c .before .before .before .before .before .args .thread .priority) (record { sfits = c .struct-told .given .1 .0 .1 }))
+returns-3 c =
+    let k = c .before .before in
+    let mine = sym (k .before .before .is-current .ensures) ∙ not-false _ (k .before .if1 .left) in
+    let same = toZ-ofZ w32 (k .before .before .before .args .thread .priority) (record { sfits = c .struct-told .given .1 .0 .1 }) in
+    simp (mine, eq-eqb _ _ (k .if2 .left), c .before .idle-run .ensures, same)
 
 pub take-spec : {M : Type 1} → statement M
 take-spec = tie.close (tie.spec is-current-requires returns returns-2 idle-run-requires returns-3)

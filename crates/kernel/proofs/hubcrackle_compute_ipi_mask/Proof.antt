@@ -22,7 +22,9 @@ returns : tie.Need-returns
 returns c =
     let a = c .before .before .before .before .before .before .before in
     let p = c .before .before .put-mask in
-    answered maskBytes (now (a .args .out)) (rw (toZ-ofZ w32 (a .args .target-prio) (a .fits .target-prio)) at (c .before .before .before .before .ipi-mask-of-bytes .ensures)) (toZ-ofZ w32 (p .result) (record { sfits = p .ok }) ∙ p .ensures .0) (p .ensures .1)
+    let code = toZ-ofZ w32 (p .result) (record { sfits = p .ok }) ∙ p .ensures .0 in
+    let rule = rw (toZ-ofZ w32 (a .args .target-prio) (a .fits .target-prio)) at (c .before .before .before .before .ipi-mask-of-bytes .ensures) in
+    answered maskBytes (now (a .args .out)) rule code (p .ensures .1)
 
 pub hubcrackle-compute-ipi-mask-spec : {M : Type 1} → statement M
 hubcrackle-compute-ipi-mask-spec =

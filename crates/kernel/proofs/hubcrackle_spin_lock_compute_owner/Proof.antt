@@ -22,7 +22,8 @@ returns : tie.Need-returns
 returns c =
     let a = c .before .before .before .before .before .before in
     let p = c .before .before .put-word in
-    answered wordBytes (now (a .args .out)) (c .before .before .before .before .spin-lock-compute-owner .ensures) (toZ-ofZ w32 (p .result) (record { sfits = p .ok }) ∙ p .ensures .0) (p .ensures .1)
+    let code = toZ-ofZ w32 (p .result) (record { sfits = p .ok }) ∙ p .ensures .0 in
+    answered wordBytes (now (a .args .out)) (c .before .before .before .before .spin-lock-compute-owner .ensures) code (p .ensures .1)
 
 pub hubcrackle-spin-lock-compute-owner-spec : {M : Type 1} → statement M
 hubcrackle-spin-lock-compute-owner-spec =

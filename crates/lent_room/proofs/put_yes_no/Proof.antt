@@ -1,64 +1,33 @@
--- A refusal and short room stay; else the one store is the answer's byte over the front (`Cases`). Assumes nothing.
+-- The byte of a yes or no is the low byte of the number that a bool is cast to. Assumes nothing.
 use borrow.Author.Needs.{needs}
-use borrow.Author.Tests.{not-true, not-false}
-use mathlib.Core.Path.{_≡_, refl, sym, _∙_}
-use mathlib.Core.Bool.{Bool, true, false, cond}
-use denote.Ref.{now}
+use mathlib.Core.Path.{_≡_, refl, _∙_}
+use mathlib.Core.Bool.{Bool, true, false}
 use mir.Syntax.{w32}
 use mir.Val.{boolByte}
 use mir.ValLaws.{toZ-ofZ}
-use Rattle.error.specs.Codes.{numberOf}
-use Rattle.error.specs.Answer.{answer}
+use Rattle.words.specs.HighFirst.{highFirst}
 use Rattle.lent_room.specs.Room.{yesNoBytes}
-use Rattle.lent_room.proofs.Cases.{refused, no-room, done}
 use Rattle.lent_room.proofs.put_yes_no.Statement.{statement}
 use Rattle.lent_room.proofs.put_yes_no.Tie as tie
 
--- The byte that a bool is cast to.
-bool-byte : (b : Bool) → boolByte b ≡ cond b 1 0
+bool-byte : (b : Bool) → highFirst 1 (boolByte b) ≡ yesNoBytes b
 bool-byte true = refl
 bool-byte false = refl
 
-is-ok-requires : tie.Need-is-ok-requires
-is-ok-requires c κs = search needs
+cast-put-value : tie.Need-cast-put-value
+cast-put-value c = search needs
 
-number-requires : tie.Need-number-requires
-number-requires c κs = search needs
-
-returns : tie.Need-returns
-returns c =
-    let a = c .before .before .before .before .args in
-    let k = refused (answer (numberOf (a .code)) (yesNoBytes (a .holds))) (now (a .out)) (sym (c .before .before .is-ok .ensures) ∙ not-true _ (c .before .if1 .taken)) in
-    (toZ-ofZ w32 (c .number .result) (record { sfits = c .number .ok }) ∙ c .number .ensures ∙ k .0, k .1)
-
-returns-2 : tie.Need-returns-2
-returns-2 c =
-    let a = c .before .before .before .before .args in
-    no-room (answer (numberOf (a .code)) (yesNoBytes (a .holds))) (now (a .out)) (sym (c .before .before .is-ok .ensures) ∙ not-false _ (c .before .if1 .left)) (c .if2 .taken)
-
-cast-out : tie.Need-cast-out
-cast-out c = search needs
-
-slice-write-out : tie.Need-slice-write-out
-slice-write-out c = search needs
+put-value-requires : tie.Need-put-value-requires
+put-value-requires c κs = search needs
 
 same-length : tie.Need-same-length
 same-length c = search needs
 
-returns-3 : tie.Need-returns-3
-returns-3 c =
-    let a = c .before .before .before .before .args in
-    rw (bool-byte (a .holds)) (done (answer (numberOf (a .code)) (yesNoBytes (a .holds))) (now (a .out)) (sym (c .before .before .is-ok .ensures) ∙ not-false _ (c .before .if1 .left)) (c .if2 .left))
+returns : tie.Need-returns
+returns c =
+    let v = c .before .before .put-value in
+    rw (← bool-byte (c .before .before .before .before .before .args .holds))
+    (toZ-ofZ w32 (v .result) (record { sfits = v .ok }) ∙ v .ensures .0, v .ensures .1)
 
 pub put-yes-no-spec : {M : Type 1} → statement M
-put-yes-no-spec =
-    tie.close
-    (tie.spec
-    is-ok-requires
-    number-requires
-    returns
-    returns-2
-    cast-out
-    slice-write-out
-    same-length
-    returns-3)
+put-yes-no-spec = tie.close (tie.spec cast-put-value put-value-requires same-length returns)

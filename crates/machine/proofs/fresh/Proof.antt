@@ -1,44 +1,28 @@
--- Each return is the rule's case that the tests on n name. Assumes nothing.
-use borrow.Author.Needs.{needs}
-use borrow.Author.Tests.{lt-leb, le-leb}
-use Prim.Native.Nat.{_≤_}
-use native.Mathlib.Nat.{pos-of-ne-zero}
-use native.Mathlib.Omega.{arith}
+-- By the test of the setup. Assumes nothing.
+use mathlib.Core.Path.{sym, _∙_}
+use borrow.Author.Tests.{not-true, not-false}
 use Rattle.machine.specs.State.{fresh}
+use borrow.Author.Needs.{needs}
 use Rattle.machine.proofs.fresh.Statement.{statement}
 use Rattle.machine.proofs.fresh.Tie as tie
+
+is-ok-requires : tie.Need-is-ok-requires
+is-ok-requires c κs = search needs
+
+refused-requires : tie.Need-refused-requires
+refused-requires c κs = search needs
+
+returns : tie.Need-returns
+unfolding fresh
+returns c = simp (sym (c .before .before .is-ok .ensures) ∙ not-true _ (c .before .if1 .taken)) (c .refused .ensures)
 
 fresh-machine-requires : tie.Need-fresh-machine-requires
 fresh-machine-requires c κs = search needs
 
-returns : tie.Need-returns
-unfolding fresh
-returns c = simp (lt-leb 1 (c .before .before .args .n) (omega arith), c .fresh-machine .ensures)
-
-fresh-machine-requires-2 : tie.Need-fresh-machine-requires-2
-fresh-machine-requires-2 c κs = search needs
-
 returns-2 : tie.Need-returns-2
 unfolding fresh
-returns-2 c = simp (le-leb 1 (c .before .before .before .args .n) (omega arith), lt-leb _ _ (c .before .if2 .taken), c .fresh-machine2 .ensures)
-
-fresh-machine-requires-3 : tie.Need-fresh-machine-requires-3
-fresh-machine-requires-3 c κs = search needs
-
-returns-3 : tie.Need-returns-3
-unfolding fresh
-returns-3 c =
-    let n = c .before .before .before .args .n in
-    let some : 1 ≤ n = pos-of-ne-zero (c .before .before .if1 .left) in
-    simp (le-leb 1 n some, le-leb _ _ (c .before .if2 .left), c .fresh-machine3 .ensures)
+returns-2 c = simp (sym (c .before .before .is-ok .ensures) ∙ not-false _ (c .before .if1 .left), c .fresh-machine .ensures)
 
 pub fresh-spec : {M : Type 1} → statement M
 fresh-spec =
-    tie.close
-    (tie.spec
-    fresh-machine-requires
-    returns
-    fresh-machine-requires-2
-    returns-2
-    fresh-machine-requires-3
-    returns-3)
+    tie.close (tie.spec is-ok-requires refused-requires returns fresh-machine-requires returns-2)

@@ -1,6 +1,6 @@
 -- Each array is its element repeated. Assumes nothing.
-use borrow.Author.Needs.{needs}
 use Rattle.machine.specs.State.{freshMachine}
+use borrow.Author.Needs.{needs}
 use Rattle.machine.proofs.fresh_machine.Statement.{statement}
 use Rattle.machine.proofs.fresh_machine.Tie as tie
 

@@ -1,9 +1,9 @@
 -- Each return is one of the three ways (`Cases`), from what the calls ensure. Assumes nothing.
-use borrow.Author.Needs.{needs}
-use borrow.Author.Tests.{not-true, not-false}
 use mathlib.Core.Path.{sym, _∙_}
+use borrow.Author.Tests.{not-true, not-false}
 use denote.Ref.{now}
 use Rattle.program.proofs.Cases.{lent-log, no-setup, refused-run, whole-run}
+use borrow.Author.Needs.{needs}
 use Rattle.program.proofs.respond.Statement.{statement}
 use Rattle.program.proofs.respond.Tie as tie
 
@@ -15,9 +15,8 @@ same-length c = search needs
 
 returns : tie.Need-returns
 returns c =
-    let t = c .before .before .before .before in
-    let a = t .before .before .before .args in
-    let k = no-setup (now (a .input)) (now (a .out)) (t .if1 .taken) in
+    let a = c .before .before .before .before .before .before .before .args in
+    let k = no-setup (now (a .input)) (now (a .out)) (c .before .before .before .before .if1 .taken) in
     let r = c .before .before .refuse .ensures in (r .0 ∙ k .0, r .1 ∙ k .1)
 
 shared-slice-read-run-from-setup : tie.Need-shared-slice-read-run-from-setup
@@ -46,30 +45,33 @@ same-length-2 c = search needs
 
 returns-2 : tie.Need-returns-2
 returns-2 c =
-    let t = c .before .before .before .before in
-    let run = t .before .before .before .before in
-    let some = run .before .before .before .before in
-    let a = some .before .before .before .args in
-    let bad = sym (t .before .is-ok .ensures) ∙ not-true _ (t .if2 .taken) in
-    let k = refused-run (now (a .input)) (now (a .out)) (some .if1 .left) (lent-log (now (a .input))) (run .run-from-setup .ensures .0) (run .run-from-setup .ensures .1) bad in
-    let r = c .before .before .refuse2 .ensures in (r .0 ∙ k .0, r .1 ∙ k .1)
+    let s = c .before .before .before .before in
+    let ran = s .before .before .before .before in
+    let t = ran .before .before .before .before in
+    let a = t .before .before .before .args in
+    let bad = sym (s .before .is-ok .ensures) ∙ not-true _ (s .if2 .taken) in
+    let run = ran .run-from-setup .ensures in
+    let k = refused-run (now (a .input)) (now (a .out)) (t .if1 .left) (lent-log (now (a .input))) (run .0) (run .1) bad in
+    let r = c .before .before .refuse2 .ensures in
+    (r .0 ∙ k .0, r .1 ∙ k .1)
 
-sub-result : tie.Need-sub-result
-sub-result c = search needs
+sub-size : tie.Need-sub-size
+sub-size c = search needs
 
-mul-result : tie.Need-mul-result
-mul-result c = search needs
+mul-size : tie.Need-mul-size
+mul-size c = search needs
 
 same-length-3 : tie.Need-same-length-3
 same-length-3 c = search needs
 
 returns-3 : tie.Need-returns-3
 returns-3 c =
-    let run = c .before .before .before .before in
-    let some = run .before .before .before .before in
-    let a = some .before .before .before .args in
+    let ran = c .before .before .before .before in
+    let t = ran .before .before .before .before in
+    let a = t .before .before .before .args in
+    let run = ran .run-from-setup .ensures in
     let fine = sym (c .before .is-ok .ensures) ∙ not-false _ (c .if2 .left) in
-    whole-run (now (a .input)) (now (a .out)) (some .if1 .left) (lent-log (now (a .input))) (run .run-from-setup .ensures .0) (run .run-from-setup .ensures .1) fine
+    whole-run (now (a .input)) (now (a .out)) (t .if1 .left) (lent-log (now (a .input))) (run .0) (run .1) fine
 
 pub respond-spec : {M : Type 1} → statement M
 respond-spec =
@@ -87,7 +89,7 @@ respond-spec =
     refuse-requires-2
     same-length-2
     returns-2
-    sub-result
-    mul-result
+    sub-size
+    mul-size
     same-length-3
     returns-3)

@@ -24,7 +24,8 @@ add-result c = search needs
 returns-3 : tie.Need-returns-3
 returns-3 c =
     let a = c .before .before .args in
-    simp (lt-ltb _ _ (c .before .if1 .left), ne-eqb _ _ (c .if2 .left)) (tag-of-sum tagBits (a .thread % 4) (a .cpu) (mod-lt (a .thread) (omega arith)) (c .before .if1 .left))
+    simp (lt-ltb _ _ (c .before .if1 .left), ne-eqb _ _ (c .if2 .left))
+    (tag-of-sum tagBits (a .thread % 4) (a .cpu) (mod-lt (a .thread) (omega arith)) (c .before .if1 .left))
 
 pub taggable-spec : {M : Type 1} → statement M
 taggable-spec = tie.close (tie.spec returns returns-2 cast-low add-result returns-3)

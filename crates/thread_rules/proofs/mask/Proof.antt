@@ -25,7 +25,7 @@ returns c =
     let a = c .before .before .before .args in
     c .remasked .ensures
     ∙ ap (λ (x : Answer ℕ). appliedTo (a .thread) (remasked (a .thread) x)) (c .before .cpu-mask-mod .ensures
-    ∙ ap (λ (p : Bool). cpuMaskMod (a .thread .mask) (a .enable) (a .disable) p (a .pin-only)) (c .before .before .is-placed .ensures))
+    ∙ ap (λ (p : Bool). cpuMaskMod (a .thread .mask) (a .enable) (a .disable) p (a .setup .«pin_only»)) (c .before .before .is-placed .ensures))
 
 pub mask-spec : {M : Type 1} → statement M
 mask-spec = tie.close (tie.spec is-placed-requires cpu-mask-mod-requires remasked-requires returns)

@@ -20,7 +20,7 @@ unfolding pin
 returns c =
     let a = c .before .before .args in
     c .mask .ensures
-    ∙ ap (λ (m : ℕ). appliedTo (a .thread) (mask m (bitNot maskBits m) (a .pin-only) (a .thread))) (c .before .cpu-bit .ensures)
+    ∙ ap (λ (m : ℕ). appliedTo (a .thread) (mask (a .setup) m (bitNot maskBits m) (a .thread))) (c .before .cpu-bit .ensures)
 
 pub pin-spec : {M : Type 1} → statement M
 pin-spec = tie.close (tie.spec cpu-bit-requires mask-requires returns)

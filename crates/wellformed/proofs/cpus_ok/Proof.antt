@@ -4,29 +4,33 @@ use mathlib.Core.Path.{_≡_, refl}
 use borrow.Author.Needs.{needs}
 use native.Mathlib.Omega.{arith}
 use Rattle.wellformed.proofs.Tests.{turn}
-use Rattle.wellformed.specs.WellFormed.{allBelow, cpuOk}
+use Rattle.words.specs.Below.{allBelow}
+use Rattle.wellformed.specs.WellFormed.{cpuOk}
 use Rattle.machine.specs.State.{cpuSlots}
 use Rattle.wellformed.proofs.cpus_ok.Statement.{statement}
 use Rattle.wellformed.proofs.cpus_ok.Tie as tie
 
 abbrev Inv-loop : tie.InvT-loop
-Inv-loop m ok₀ c₀ threads ok c = (c ≤ cpuSlots) × (allBelow (cpuOk m) c ≡ ok)
+Inv-loop setup threads cpus ok₀ c₀ ok c = (c ≤ cpuSlots) × (allBelow (cpuOk setup cpus threads) c ≡ ok)
 
 abbrev μ-loop : tie.MeasureT-loop
-μ-loop m ok₀ c₀ threads ok c = cpuSlots - c
+μ-loop setup threads cpus ok₀ c₀ ok c = cpuSlots - c
 
 loop-holds : tie.Need-loop-holds Inv-loop μ-loop
 unfolding allBelow
 loop-holds c = search needs
 
-cast-at : tie.Need-cast-at Inv-loop μ-loop
-cast-at c = search needs
+cast-loop : tie.Need-cast-loop Inv-loop μ-loop
+cast-loop c = search needs
+
+cast-cpu : tie.Need-cast-cpu Inv-loop μ-loop
+cast-cpu c = search needs
 
 mul-cpu : tie.Need-mul-cpu Inv-loop μ-loop
 mul-cpu c = search needs
 
-element-copy-out-cpu : tie.Need-element-copy-out-cpu Inv-loop μ-loop
-element-copy-out-cpu c = search needs
+array-copy-out-cpu : tie.Need-array-copy-out-cpu Inv-loop μ-loop
+array-copy-out-cpu c = search needs
 
 slot-ok-requires : tie.Need-slot-ok-requires Inv-loop μ-loop
 slot-ok-requires c κs = search needs
@@ -58,9 +62,10 @@ cpus-ok-spec =
     Inv-loop
     μ-loop
     loop-holds
-    cast-at
+    cast-loop
+    cast-cpu
     mul-cpu
-    element-copy-out-cpu
+    array-copy-out-cpu
     slot-ok-requires
     current-ok-requires
     idle-ok-requires

@@ -4,29 +4,33 @@ use mathlib.Core.Path.{_≡_, refl}
 use borrow.Author.Needs.{needs}
 use native.Mathlib.Omega.{arith}
 use Rattle.wellformed.proofs.Tests.{turn}
-use Rattle.wellformed.specs.WellFormed.{allBelow, threadOk}
+use Rattle.words.specs.Below.{allBelow}
+use Rattle.wellformed.specs.WellFormed.{threadOk}
 use Rattle.machine.specs.State.{threadCount}
 use Rattle.wellformed.proofs.threads_ok.Statement.{statement}
 use Rattle.wellformed.proofs.threads_ok.Tie as tie
 
 abbrev Inv-loop : tie.InvT-loop
-Inv-loop m ok₀ t₀ cpus ok t = (t ≤ threadCount) × (allBelow (threadOk m) t ≡ ok)
+Inv-loop setup cpus threads ok₀ t₀ ok t = (t ≤ threadCount) × (allBelow (threadOk setup cpus threads) t ≡ ok)
 
 abbrev μ-loop : tie.MeasureT-loop
-μ-loop m ok₀ t₀ cpus ok t = threadCount - t
+μ-loop setup cpus threads ok₀ t₀ ok t = threadCount - t
 
 loop-holds : tie.Need-loop-holds Inv-loop μ-loop
 unfolding allBelow
 loop-holds c = search needs
 
-cast-at : tie.Need-cast-at Inv-loop μ-loop
-cast-at c = search needs
+cast-loop : tie.Need-cast-loop Inv-loop μ-loop
+cast-loop c = search needs
+
+cast-thread : tie.Need-cast-thread Inv-loop μ-loop
+cast-thread c = search needs
 
 mul-thread : tie.Need-mul-thread Inv-loop μ-loop
 mul-thread c = search needs
 
-element-copy-out-thread : tie.Need-element-copy-out-thread Inv-loop μ-loop
-element-copy-out-thread c = search needs
+array-copy-out-thread : tie.Need-array-copy-out-thread Inv-loop μ-loop
+array-copy-out-thread c = search needs
 
 place-ok-requires : tie.Need-place-ok-requires Inv-loop μ-loop
 place-ok-requires c κs = search needs
@@ -58,9 +62,10 @@ threads-ok-spec =
     Inv-loop
     μ-loop
     loop-holds
-    cast-at
+    cast-loop
+    cast-thread
     mul-thread
-    element-copy-out-thread
+    array-copy-out-thread
     place-ok-requires
     priority-ok-requires
     mask-ok-requires

@@ -19,18 +19,24 @@ text-requires c κs = search needs
 
 sub-below : tie.Need-sub-below
 sub-below c =
-    let m = negative (c .before .before .before .args .n) (c .before .before .before .fits .n) (subst (λ (z : ℤ). ltZ z (pos 0) ≡ true) (toZ-ofZ w32 (c .before .before .before .args .n) (c .before .before .before .fits .n)) (c .before .before .if1 .taken)) in
-    rw (toZ-ofZ w32 (c .before .before .before .args .n) (c .before .before .before .fits .n), m .is) (record { sfits = m .fits })
+    let a = c .before .before .before in
+    let same = toZ-ofZ w32 (a .args .n) (a .fits .n) in
+    let m = negative (a .args .n) (a .fits .n) (subst (λ (z : ℤ). ltZ z (pos 0) ≡ true) same (c .before .before .if1 .taken)) in
+    rw (same, m .is) (record { sfits = m .fits })
 
 cast-decimal : tie.Need-cast-decimal
 cast-decimal c =
-    let m = negative (c .before .before .before .args .n) (c .before .before .before .fits .n) (subst (λ (z : ℤ). ltZ z (pos 0) ≡ true) (toZ-ofZ w32 (c .before .before .before .args .n) (c .before .before .before .fits .n)) (c .before .before .if1 .taken)) in
-    rw (toZ-ofZ w32 (c .before .before .before .args .n) (c .before .before .before .fits .n), m .is, toZ-pos w32 (m .size) (m .fits)) (tt, omega (arith, m .fits))
+    let a = c .before .before .before in
+    let same = toZ-ofZ w32 (a .args .n) (a .fits .n) in
+    let m = negative (a .args .n) (a .fits .n) (subst (λ (z : ℤ). ltZ z (pos 0) ≡ true) same (c .before .before .if1 .taken)) in
+    rw (same, m .is, toZ-pos w32 (m .size) (m .fits)) (tt, omega (arith, m .fits))
 
 add-decimal : tie.Need-add-decimal
 add-decimal c =
-    let m = negative (c .before .before .before .args .n) (c .before .before .before .fits .n) (subst (λ (z : ℤ). ltZ z (pos 0) ≡ true) (toZ-ofZ w32 (c .before .before .before .args .n) (c .before .before .before .fits .n)) (c .before .before .if1 .taken)) in
-    rw (toZ-ofZ w32 (c .before .before .before .args .n) (c .before .before .before .fits .n), m .is, toZ-pos w32 (m .size) (m .fits)) (omega (arith, m .fits))
+    let a = c .before .before .before in
+    let same = toZ-ofZ w32 (a .args .n) (a .fits .n) in
+    let m = negative (a .args .n) (a .fits .n) (subst (λ (z : ℤ). ltZ z (pos 0) ≡ true) same (c .before .before .if1 .taken)) in
+    rw (same, m .is, toZ-pos w32 (m .size) (m .fits)) (omega (arith, m .fits))
 
 decimal-requires : tie.Need-decimal-requires
 decimal-requires c κs = search needs

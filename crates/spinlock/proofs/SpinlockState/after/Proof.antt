@@ -1,9 +1,9 @@
 -- Each arm is the rule's clause for its operation and situation; what the situation says of the depth is what the two steps ask.
 -- Assumes nothing.
 use borrow.Author.Needs.{needs}
-use mathlib.Core.Path.{sym, subst, _∙_}
+use mathlib.Core.Path.{sym, _∙_}
 use Rattle.spinlock.specs.Lock.{after}
-use Rattle.spinlock.proofs.Situations.{View, view, own-says, full-says}
+use Rattle.spinlock.proofs.Situations.{own-says, full-says}
 use Rattle.spinlock.proofs.SpinlockState.after.Statement.{statement}
 use Rattle.spinlock.proofs.SpinlockState.after.Tie as tie
 
@@ -40,7 +40,7 @@ enum-told-8 c = search needs
 deeper-requires : tie.Need-deeper-requires
 deeper-requires c κs =
     let p = c .before .before .before .before in
-    own-says (p .args .self) (p .args .tid) (subst (View (p .args .self) (p .args .tid)) (sym (p .pre .1) ∙ c .enum-told8 .given .1) (view (p .args .self) (p .args .tid) (p .pre .0))) .1
+    own-says _ _ (p .pre .1 .0) (p .pre .0) (sym (p .pre .1 .1) ∙ c .enum-told8 .given .1) .1
 
 enum-told-9 : tie.Need-enum-told-9
 enum-told-9 c = search needs
@@ -60,7 +60,7 @@ enum-told-13 c = search needs
 shallower-requires : tie.Need-shallower-requires
 shallower-requires c κs =
     let p = c .before .before .before .before in
-    own-says (p .args .self) (p .args .tid) (subst (View (p .args .self) (p .args .tid)) (sym (p .pre .1) ∙ c .enum-told13 .given .1) (view (p .args .self) (p .args .tid) (p .pre .0))) .0 .some
+    own-says _ _ (p .pre .1 .0) (p .pre .0) (sym (p .pre .1 .1) ∙ c .enum-told13 .given .1) .0 .some
 
 enum-told-14 : tie.Need-enum-told-14
 enum-told-14 c = search needs
@@ -68,7 +68,7 @@ enum-told-14 c = search needs
 shallower-requires-2 : tie.Need-shallower-requires-2
 shallower-requires-2 c κs =
     let p = c .before .before .before .before in
-    full-says (p .args .self) (p .args .tid) (subst (View (p .args .self) (p .args .tid)) (sym (p .pre .1) ∙ c .enum-told14 .given .1) (view (p .args .self) (p .args .tid) (p .pre .0))) .some
+    full-says _ _ (p .pre .1 .0) (p .pre .0) (sym (p .pre .1 .1) ∙ c .enum-told14 .given .1) .some
 
 enum-told-15 : tie.Need-enum-told-15
 enum-told-15 c = search needs

@@ -3,7 +3,7 @@
 use borrow.Author.Needs.{needs}
 use borrow.Author.Tests.{not-true, not-false}
 use mathlib.Core.Path.{sym, _∙_}
-use Rattle.spinlock.specs.Lock.{operate, after}
+use Rattle.spinlock.specs.Lock.{operate}
 use Rattle.spinlock.proofs.SpinlockState.operate.Statement.{statement}
 use Rattle.spinlock.proofs.SpinlockState.operate.Tie as tie
 
@@ -21,8 +21,10 @@ code-of-requires : tie.Need-code-of-requires
 code-of-requires c κs = search needs
 
 after-requires : tie.Need-after-requires
-after-requires c κs =
-    (sym (c .before .before .before .valid .ensures) ∙ not-false _ (c .before .before .if1 .left), c .before .situation .ensures)
+after-requires c κs = (
+  sym (c .before .before .before .valid .ensures) ∙ not-false _ (c .before .before .if1 .left),
+  (_, c .before .situation .ensures),
+)
 
 returns-2 : tie.Need-returns-2
 unfolding operate

@@ -1,0 +1,14 @@
+-- The test is the definition's. Assumes nothing.
+use mathlib.Core.Path.{refl}
+use borrow.Author.Needs.{needs}
+use Rattle.machine.proofs.ThreadId.exists.Statement.{statement}
+use Rattle.machine.proofs.ThreadId.exists.Tie as tie
+
+cast-result : tie.Need-cast-result
+cast-result c = search needs
+
+returns : tie.Need-returns
+returns c = refl
+
+pub exists-spec : {M : Type 1} → statement M
+exists-spec = tie.close (tie.spec cast-result returns)

@@ -1,0 +1,4 @@
+pub mod Cells
+pub mod Operations
+pub mod Asked
+pub mod Log

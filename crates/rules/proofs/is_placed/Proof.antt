@@ -1,0 +1,19 @@
+-- By the place. Assumes nothing.
+use borrow.Author.Needs.{needs}
+use Rattle.rules.proofs.is_placed.Statement.{statement}
+use Rattle.rules.proofs.is_placed.Tie as tie
+
+enum-told : tie.Need-enum-told
+enum-told c = search needs
+
+enum-told-2 : tie.Need-enum-told-2
+enum-told-2 c = search needs
+
+returns : tie.Need-returns
+returns c = search needs
+
+returns-2 : tie.Need-returns-2
+returns-2 c = search needs
+
+pub is-placed-spec : {M : Type 1} → statement M
+is-placed-spec = tie.close (tie.spec enum-told enum-told-2 returns returns-2)

@@ -1,2 +1,0 @@
-pub mod LastArm
-pub mod OneResult
