@@ -19,10 +19,13 @@ ghost use Rattle.kernel.specs.Calls.{
   ipiMask,
   ipiMaskTest,
 };
-ghost use Rattle.setup_run.specs.Run.{codeFromSetup, roomFromSetup};
+
+mod run;
+
 use cpu_mask::CpuMaskResult;
 use cpu_mask::PinMask;
 use error::Code;
+pub use run::hubcrackle_run;
 use spinlock_validate::Decoded;
 
 // The owner word of a thread on a CPU: 8 bytes.
@@ -193,14 +196,4 @@ pub extern "C" fn hubcrackle_validate_ipi_mask(
     let possible = ipi::validate_ipi_mask(mask, current_cpu, max_cpus);
     let code = possible.code;
     lent_room::put_yes_no(out, code, possible.yes)
-}
-
-// The answers of a log, from the machine that a setup byte asks for: 8 bytes a record.
-#[no_mangle]
-pub extern "C" fn hubcrackle_run(setup: u8, log: &[u8], out: &mut [u8]) -> i32
-    ensures code { λ r. ⌜ r ≡ codeFromSetup setup (now (log .entry)) (length (now (out .entry))) ⌝ }
-    ensures room { λ _. ⌜ now (out .exit) ≡ roomFromSetup setup (now (log .entry)) (now (out .entry)) ⌝ }
-{
-    let code = setup_run::run_from_setup(setup, log, out);
-    error::number(code)
 }

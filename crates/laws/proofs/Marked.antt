@@ -16,7 +16,8 @@ use Rattle.rules.specs.Rules.{up, put, take, lockOp, owner}
 use Rattle.wellformed.specs.WellFormed.{sumBelow, wellFormed}
 use Rattle.operations.specs.Asked.{answered, next}
 use Rattle.operations.specs.Log.{stateAt}
-use Rattle.runner.specs.Run.{roomAt, runCode, ran, ranRoom}
+use Rattle.log_tests.specs.RunCode.{runCode}
+use Rattle.runner.specs.Run.{roomAt, ran, ranRoom}
 use Rattle.setup_run.specs.Run.{codeFromSetup, roomFromSetup}
 use Rattle.program.specs.Program.{inputCode, respondRoom}
 use Rattle.laws.specs.Marked.{Holds, table, all, at, cpu, cpus, opened, workedLog, zeros, workedAnswers, workedEnd}

@@ -1,19 +1,19 @@
 -- Demand 3 at the bytes: what the runner and the program write for a rearranged log. Assumes nothing.
-use mathlib.Core.Path.{_≡_, refl, ap, sym, _∙_}
-use mathlib.Core.Bool.{Bool, true, false, not, cond, false≢true}
+use mathlib.Core.Path.{_≡_, ap, sym, _∙_}
+use mathlib.Core.Bool.{true, false, cond}
 use mathlib.Core.List.{List, _∷_}
-use Prim.Native.Nat.{ℕ, suc, _*_, _/_, _%_, _≤_, _<_}
+use Prim.Native.Nat.{ℕ, suc, _/_, _<_}
 use native.Mathlib.Omega.{arith}
-use lib.Dec.{eqb, ltb}
 use lib.ListN.{length}
-use borrow.Author.Tests.{ltb-false, ne-eqb}
-use Rattle.error.specs.Codes.{OK, ENOMEM, EINVAL, EOVERFLOW, isOK}
+use borrow.Author.Tests.{ne-eqb}
+use Rattle.error.specs.Codes.{isOK}
 use Rattle.machine.specs.State.{setup}
 use Rattle.machine.specs.declared.Machine.{Machine}
 use Rattle.answers.specs.Answer.{answerBytes}
 use Rattle.wellformed.specs.WellFormed.{wellFormed}
 use Rattle.operations.specs.Log.{stateAt, answerAt}
-use Rattle.runner.specs.Run.{roomAt, runCode, ran, ranRoom}
+use Rattle.log_tests.proofs.Accepted.{room-enough}
+use Rattle.runner.specs.Run.{roomAt, ran, ranRoom}
 use Rattle.runner.proofs.Refused.{refused-room}
 use Rattle.setup_run.specs.Run.{codeFromSetup}
 use Rattle.setup_run.proofs.Cases.{accepted-runs}
@@ -21,18 +21,6 @@ use Rattle.program.specs.Program.{inputCode, refusalRoom, respondSize, respondR
 use Rattle.rearranged.specs.Rearranged.{Rearranged, SameRun, place, SameBytes, SameResponse}
 use Rattle.rearranged.proofs.Places.{answer-in-place}
 use Rattle.rearranged.proofs.Laws.{rearranged-log}
-
--- A log that is run has room for its answers.
-last-test : (a b c d : Bool) → isOK (cond a EINVAL (cond b EOVERFLOW (cond c EINVAL (cond d ENOMEM OK)))) ≡ true → d ≡ false
-last-test true b c d e = absurd (false≢true e)
-last-test false true c d e = absurd (false≢true e)
-last-test false false true d e = absurd (false≢true e)
-last-test false false false true e = absurd (false≢true e)
-last-test false false false false e = refl
-
-room-enough : (formed : Bool) (size room : ℕ) → isOK (runCode formed size room) ≡ true → size / 12 * 8 ≤ room
-unfolding runCode
-room-enough formed size room e = ltb-false room (size / 12 * 8) (last-test (not formed) (ltb 24576 size) (not (eqb (size % 12) 0)) _ e)
 
 -- What a run leaves in its room.
 run-room : (m : Machine) (log room : List ℕ) → isOK (ran m log (length room) .code) ≡ true

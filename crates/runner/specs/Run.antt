@@ -1,14 +1,14 @@
 -- 01, "Log records", "Runner": the records of a log one after the other, each answer in its place.
-use Prim.Native.Nat.{ℕ, zero, suc, _*_, _/_, _%_}
-use mathlib.Core.Bool.{Bool, not, cond}
+use Prim.Native.Nat.{ℕ, zero, suc, _*_, _/_}
+use mathlib.Core.Bool.{cond}
 use mathlib.Core.List.{List, _++_}
-use lib.Dec.{eqb, ltb}
 use lib.IntN.{ℤ}
 use lib.ListN.{length, take, drop}
-use Rattle.error.specs.Codes.{OK, ENOMEM, EINVAL, EOVERFLOW, numberOf, isOK}
+use Rattle.error.specs.Codes.{EINVAL, numberOf, isOK}
 use Rattle.error.specs.Answer.{Answer, answer}
 use Rattle.machine.specs.declared.Machine.{Machine}
 use Rattle.answers.specs.Answer.{answerBytes, written}
+use Rattle.log_tests.specs.RunCode.{runCode}
 use Rattle.wellformed.specs.WellFormed.{wellFormed}
 use Rattle.operations.specs.Log.{stateAt, answerAt}
 use Rattle.runner.specs.declared.Ran.{Ran}
@@ -30,16 +30,6 @@ writtenAt at a room = take at room ++ written (answerBytes (a .code) (a .value))
 unfoldable pub roomAt : Machine → List ℕ → List ℕ → ℕ → List ℕ
 roomAt m log room zero = room
 roomAt m log room (suc k) = writtenAt (k * 8) (answerAt m log k) (roomAt m log room k)
-
--- Runner, in order: machine not well-formed EINVAL; over 24,576 bytes EOVERFLOW; length no multiple of 12 EINVAL; room under 8 bytes a record
--- ENOMEM.
-unfoldable pub runCode : Bool → ℕ → ℕ → ℤ
-runCode formed size room =
-    cond (not formed) EINVAL
-    (cond (ltb 24576 size) EOVERFLOW
-    (cond (not (eqb (size % 12) 0)) EINVAL
-    (cond (ltb room (size / 12 * 8)) ENOMEM
-    OK)))
 
 -- What goes with OK, and what with a refusal.
 abbrev pub onOK : {A : Type 0} → ℤ → A → A → A

@@ -23,9 +23,6 @@ use record::RECORD_BYTES;
 use record::Request;
 use rules::Answered;
 
-// The longest log, 2,048 records.
-pub const MAX_LOG_BYTES: usize = 24576;
-
 // A machine after a record, with the record's answer.
 pub struct Stepped {
     pub answer: Answered,
@@ -141,34 +138,11 @@ pub fn run(m: Machine, log: &[u8], out: &mut [u8]) -> Ran
     ensures machine { λ r. ⌜ ranSays r ≡ ran m (now (log .entry)) (length (now (out .entry))) ⌝ }
     ensures room { λ _. ⌜ now (out .exit) ≡ ranRoom m (now (log .entry)) (now (out .entry)) ⌝ }
 {
-    if !wellformed::well_formed(m) {
-        return Ran {
-            code: Code::Einval,
-            machine: m,
-        };
-    }
-    if log.len() > MAX_LOG_BYTES {
-        return Ran {
-            code: Code::Eoverflow,
-            machine: m,
-        };
-    }
-    if log.len() % RECORD_BYTES != 0 {
-        return Ran {
-            code: Code::Einval,
-            machine: m,
-        };
-    }
-    if out.len() < log.len() / RECORD_BYTES * ANSWER_BYTES {
-        return Ran {
-            code: Code::Enomem,
-            machine: m,
-        };
+    let code = log_tests::run_code(wellformed::well_formed(m), log.len(), out.len());
+    if !error::is_ok(code) {
+        return Ran { code, machine: m };
     }
     let last = run_records(m, log, out);
     let machine = last.machine;
-    Ran {
-        code: Code::Ok,
-        machine,
-    }
+    Ran { code, machine }
 }

@@ -3,8 +3,8 @@ use borrow.Author.Needs.{needs}
 use mathlib.Core.Path.{_∙_}
 use mir.Syntax.{w32}
 use mir.ValLaws.{toZ-ofZ}
-use Rattle.kernel.proofs.hubcrackle_run.Statement.{statement}
-use Rattle.kernel.proofs.hubcrackle_run.Tie as tie
+use Rattle.kernel.proofs.run.hubcrackle_run.Statement.{statement}
+use Rattle.kernel.proofs.run.hubcrackle_run.Tie as tie
 
 run-from-setup-requires : tie.Need-run-from-setup-requires
 run-from-setup-requires c κs = search needs
