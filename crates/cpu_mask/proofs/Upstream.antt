@@ -77,8 +77,9 @@ pin-out-of-bounds cpu max (inl h) = by (below-or maskBits max)
     by (inl large) = rw (lt-leb max maskBits large)
     by (inr small) = simp (le-leb max maskBits small, le-ltb cpu max h)
 
--- Success: the CPU is below 32, and the mask is a power of two.
-pub pin-is-power : (cpu max m : ℕ) → cpuPinCompute cpu max ≡ answer OK m → (cpu < 32) × (powerBelow maskBits m ≡ true)
+-- Success: the CPU is below 32, and the mask is one of the powers of two.
+pub pin-is-power : (cpu max m : ℕ) → cpuPinCompute cpu max ≡ answer OK m → (cpu < 32) × (isOneOf powers m ≡ true)
+unfolding powers isOneOf powerBelow
 pin-is-power cpu max m e =
     let only = pin-only-then cpu max m e in
     let below : cpu < 32 = omega (arith, only .0, only .1) in

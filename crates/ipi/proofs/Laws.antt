@@ -1,7 +1,7 @@
 -- Laws of interrupt masks: of every bit when it is set, when the call must succeed, and that every computed mask passes the test.
 -- Assumes nothing.
 use mathlib.Core.Path.{_≡_, refl, sym, ap, subst, _∙_}
-use mathlib.Core.Bool.{true, false, _&&_, not, cond, and-false}
+use mathlib.Core.Bool.{Bool, true, false, _&&_, not, cond, and-false}
 use mathlib.Core.List.{List}
 use Prim.Native.Nat.{ℕ, _^_, _≤_, _<_}
 use native.Mathlib.Nat.{lt-of-lt-of-le}
@@ -17,8 +17,25 @@ use Rattle.error.proofs.Answers.{same-value, refused-not-done}
 use Rattle.words.specs.Bit.{bit, bitsOf}
 use Rattle.words.proofs.Choice.{bool-ind, and-left, and-right}
 use Rattle.words.proofs.BitsOf.{bitsOf-lt, bit-bitsOf}
-use Rattle.ipi.specs.Ipi.{maxIpiCpus, noCpu, gets, eligible, countsFit, computeIpiMask, validateIpiMask}
+use Rattle.ipi.specs.Ipi.{maxIpiCpus, noCpu, candidate, gets, eligible, countsFit, computeIpiMask, validateIpiMask}
 use Rattle.ipi.specs.declared.CpuRecord.{CpuRecord}
+
+-- Who is no candidate: the current CPU, one that is down, one that the mask leaves out.
+module _ (current mask i : ℕ) (cpu : CpuRecord) where
+  pub current-excluded : i ≡ current → candidate current mask i cpu ≡ false
+  current-excluded e = rw (eq-eqb i current e)
+
+  pub inactive-excluded : cpu .active ≡ false → candidate current mask i cpu ≡ false
+  inactive-excluded down = rw (down, and-false)
+
+  pub barred-excluded : bit i mask ≡ false → candidate current mask i cpu ≡ false
+  barred-excluded barred = rw (barred, and-false, and-false)
+
+-- None of these gets an interrupt, whichever priorities outrank the target's.
+pub excluded-clear : (current mask : ℕ) (cpus : List CpuRecord) (num i : ℕ) (ranks : ℕ → Bool) → candidate current mask i (getD cpus i noCpu) ≡ false
+    → bit i (bitsOf (λ j. candidate current mask j (getD cpus j noCpu) && ranks j) num) ≡ false
+excluded-clear current mask cpus num i ranks out =
+    bit-bitsOf (λ j. candidate current mask j (getD cpus j noCpu) && ranks j) num i ∙ rw (out, and-false)
 
 -- What the call asks of its numbers.
 pub record InRange (current num max : ℕ) : Type 0 where
@@ -34,6 +51,12 @@ counts-say current num max good =
       within = leb-true num max (and-left (leb num max) _ rest);
       present = ltb-true current num (and-right (leb num max) _ rest);
     }
+
+-- Four tests, one after the other.
+in-turn : (a b c d : Bool) → (a && (b && c)) && d ≡ a && (b && (c && d))
+in-turn false b c d = refl
+in-turn true false c d = refl
+in-turn true true c d = refl
 
 module _ (current : ℕ) (target : ℤ) (mask : ℕ) (cpus : List CpuRecord) (num max : ℕ) where
   -- It must succeed in that range, and the answer is then this mask.
@@ -54,16 +77,33 @@ module _ (current : ℕ) (target : ℤ) (mask : ℕ) (cpus : List CpuRecord) (nu
       all : ℕ
       all = bitsOf (eligible current target mask cpus) num
 
+  -- The mask is clear at every CPU that is no candidate.
+  excluded : (m i : ℕ) → computeIpiMask current target mask cpus num max ≡ answer OK m → candidate current mask i (getD cpus i noCpu) ≡ false
+      → bit i m ≡ false
+  unfolding gets
+  excluded m i e out =
+      ap (bit i) (ipi-only-then m e .1) ∙ excluded-clear current mask cpus num i (λ j. ltZ target (getD cpus j noCpu .priority)) out
+
   -- Bit i, for every i: below num, not current, active, allowed, and of strictly greater priority than the target.
   pub ipi-bit : (m i : ℕ) → computeIpiMask current target mask cpus num max ≡ answer OK m
       → bit i m ≡ ltb i num
       && (not (eqb i current) && (getD cpus i noCpu .active && (bit i mask && ltZ target (getD cpus i noCpu .priority))))
   unfolding gets
-  ipi-bit m i e = ap (bit i) (ipi-only-then m e .1) ∙ bit-bitsOf (eligible current target mask cpus) num i
+  ipi-bit m i e =
+      ap (bit i) (ipi-only-then m e .1) ∙ bit-bitsOf (eligible current target mask cpus) num i
+      ∙ ap (λ (b : Bool). ltb i num && b) (in-turn (not (eqb i current)) (getD cpus i noCpu .active) (bit i mask) _)
 
   -- The current CPU is never in the mask.
   pub ipi-spares-current : (m : ℕ) → computeIpiMask current target mask cpus num max ≡ answer OK m → bit current m ≡ false
-  ipi-spares-current m e = ipi-bit m current e ∙ rw (eq-eqb current current refl, and-false)
+  ipi-spares-current m e = excluded m current e (current-excluded current mask current (getD cpus current noCpu) refl)
+
+  -- Nor is a CPU that is down.
+  pub ipi-spares-inactive : (m i : ℕ) → computeIpiMask current target mask cpus num max ≡ answer OK m → getD cpus i noCpu .active ≡ false → bit i m ≡ false
+  ipi-spares-inactive m i e down = excluded m i e (inactive-excluded current mask i (getD cpus i noCpu) down)
+
+  -- Nor one that the target may not run on.
+  pub ipi-spares-barred : (m i : ℕ) → computeIpiMask current target mask cpus num max ≡ answer OK m → bit i mask ≡ false → bit i m ≡ false
+  ipi-spares-barred m i e barred = excluded m i e (barred-excluded current mask i (getD cpus i noCpu) barred)
 
   -- The mask is below 2 to the power num, and so below 2 to the power max.
   pub ipi-below : (m : ℕ) → computeIpiMask current target mask cpus num max ≡ answer OK m → m < 2 ^ max

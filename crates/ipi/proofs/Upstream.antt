@@ -6,6 +6,7 @@ use mathlib.Core.Bool.{Bool, true, false, _&&_, not}
 use mathlib.Core.List.{List}
 use Prim.Native.Nat.{ℕ, _/_, _^_, _≤_, _<_}
 use native.Mathlib.Nat.{lt-of-lt-of-le}
+use native.Mathlib.Omega.{arith}
 use lib.Bits.{bitAnd}
 use lib.Dec.{eqb, ltb}
 use lib.IntN.{ℤ}
@@ -20,9 +21,9 @@ use Rattle.words.proofs.Choice.{below-or, and-left, and-right}
 use Rattle.words.proofs.Bits.{bit-above-width, bit-ext}
 use Rattle.words.proofs.BitTests.{test-bit, top-test}
 use Rattle.words.proofs.BitsOf.{bitsOf-lt, bit-bitsOf}
-use Rattle.ipi.specs.Ipi.{maxIpiCpus, noCpu, computeIpiMask, validateIpiMask}
+use Rattle.ipi.specs.Ipi.{maxIpiCpus, noCpu, eligible, computeIpiMask, validateIpiMask}
 use Rattle.ipi.specs.declared.CpuRecord.{CpuRecord}
-use Rattle.ipi.proofs.Laws.{ipi-bit, ipi-spares-current, ipi-below}
+use Rattle.ipi.proofs.Laws.{ipi-only-then, ipi-bit, ipi-spares-current, ipi-below}
 
 -- bit_set.
 pub bit-set-is-bit : (mask i : ℕ) → not (eqb (bitAnd mask (2 ^ i)) 0) ≡ bit i mask
@@ -86,6 +87,18 @@ module _ (current : ℕ) (target : ℤ) (mask : ℕ) (cpus : List CpuRecord) (nu
   -- IP5: no stray high bits.
   pub IP5 : MaskBounded m max
   IP5 = below-is-bounded m max (ipi-below current target mask cpus num max m e)
+
+-- single-CPU-zero: with one CPU the mask is 0.
+pub single-CPU-zero : (current : ℕ) (target : ℤ) (mask : ℕ) (cpus : List CpuRecord) (max m : ℕ) → computeIpiMask current target mask cpus 1 max ≡ answer OK m
+    → m ≡ 0
+unfolding bit
+single-CPU-zero current target mask cpus max m e =
+    let only = ipi-only-then current target mask cpus 1 max m e in
+    let spared : bit 0 m ≡ false = rw (one current (only .0 .present)) at (ipi-spares-current current target mask cpus 1 max m e) in
+    bit-ext 1 m 0 (rw (only .1) (bitsOf-lt (eligible current target mask cpus) 1)) (omega arith) (λ i h. rw (one i h) spared)
+  where
+    one : (i : ℕ) → i < 1 → i ≡ 0
+    one i h = omega arith
 
 -- validate_ipi_mask: the answer is that the current bit is not set and that nothing is left above max_cpus.
 pub validate-is-upstreams : (mask current max : ℕ) → max ≤ maxIpiCpus → current < max

@@ -25,7 +25,7 @@ abbrev pub runsLess : ℤ → List CpuRecord → ℕ → Bool
 runsLess target cpus i = getD cpus i noCpu .active && ltZ target (getD cpus i noCpu .priority)
 
 -- The same four tests in the rule's order.
-regroup : (current active allowed lower : Bool) → (active && lower) && (allowed && not current) ≡ not current && (active && (allowed && lower))
+regroup : (current active allowed lower : Bool) → (active && lower) && (allowed && not current) ≡ (not current && (active && allowed)) && lower
 regroup true false allowed lower = refl
 regroup false false allowed lower = refl
 regroup true true true lower = and-false lower

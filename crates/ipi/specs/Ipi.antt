@@ -24,9 +24,17 @@ maxIpiCpus = 16
 abbrev pub noCpu : CpuRecord
 noCpu = record { active = false; priority = pos 0 }
 
--- CPU i isn't current, is active, its affinity bit is set, and its priority is strictly greater than the target's.
+-- CPU i isn't current, is active, and its affinity bit is set.
+abbrev pub candidate : ℕ → ℕ → ℕ → CpuRecord → Bool
+candidate current mask i cpu = not (eqb i current) && (cpu .active && bit i mask)
+
+-- Its priority is strictly greater than the target's.
+abbrev pub outranks : ℤ → ℤ → Bool
+outranks target priority = ltZ target priority
+
+-- A CPU of which both hold gets the interrupt.
 unfoldable pub gets : ℕ → ℤ → ℕ → ℕ → CpuRecord → Bool
-gets current target mask i cpu = not (eqb i current) && (cpu .active && (bit i mask && ltZ target (cpu .priority)))
+gets current target mask i cpu = candidate current mask i cpu && outranks target (cpu .priority)
 
 abbrev pub eligible : ℕ → ℤ → ℕ → List CpuRecord → ℕ → Bool
 eligible current target mask cpus i = gets current target mask i (getD cpus i noCpu)

@@ -1,25 +1,29 @@
--- Exclusion: while a lock is held by a thread on a CPU, no acquire of it from another CPU or thread is accepted, and no release from anyone
--- but that thread on that CPU. Assumes nothing.
-use mathlib.Core.Path.{_≡_, ap, sym, _∙_}
-use mathlib.Core.Bool.{true, false≢true}
+-- Exclusion: while a lock is held by a thread on a CPU, a plain acquire of it is refused for everyone, and a nested acquire or a release is
+-- accepted from that thread on that CPU alone. Assumes nothing.
+use mathlib.Core.Path.{_≡_, refl, ap, sym, _∙_}
+use mathlib.Core.Bool.{Bool, true, false, cond, false≢true}
 use mathlib.Core.List.{List}
 use Prim.Native.Nat.{ℕ, _<_}
-use Rattle.error.specs.Codes.{isOK}
+use Rattle.error.specs.Codes.{EINVAL, isOK}
 use Rattle.error.specs.Answer.{Answer}
-use Rattle.spinlock.specs.Lock.{freeRecord}
+use Rattle.words.proofs.Choice.{bool-ind}
+use Rattle.spinlock.specs.Lock.{freeRecord, validRecord, held, operate}
 use Rattle.spinlock.specs.declared.Owner.{Owner}
 use Rattle.spinlock.specs.declared.SpinlockState.{SpinlockState}
 use Rattle.spinlock.specs.declared.Operation.{Operation as LockOperation}
 use Rattle.spinlock.proofs.Situations.{HeldBy}
+use Rattle.spinlock.proofs.Laws.{acquire-of-held}
 use Rattle.order.specs.Outcome.{Outcome, refuse, accept, answerOf}
-use Rattle.machine.specs.State.{lockCount, cpuAt, lockAt}
+use Rattle.machine.specs.State.{lockCount, isThread, cpuAt, lockAt}
 use Rattle.machine.specs.declared.CpuId.{CpuId}
 use Rattle.machine.specs.declared.LockId.{LockId}
+use Rattle.machine.specs.declared.Current.{Current}
+use Rattle.machine.specs.declared.Setup.{Setup}
 use Rattle.machine.specs.declared.Lock.{Lock}
 use Rattle.machine.specs.declared.Machine.{Machine}
-use Rattle.record.specs.Record.{request}
+use Rattle.record.specs.Record.{request, requestOf}
 use Rattle.record.specs.declared.Operation.{Operation}
-use Rattle.rules.specs.Rules.{lockOp}
+use Rattle.rules.specs.Rules.{refused, elsewhere, ruled, settled, lockBy, lockOp}
 use Rattle.wellformed.specs.WellFormed.{wellFormed}
 use Rattle.wellformed.proofs.Facts.{Runs, WellFormed, says}
 use Rattle.operations.specs.Operations.{withHold}
@@ -58,6 +62,38 @@ lock-done : (op : LockOperation) (h : ℕ) (P : Type 0) (o : Outcome (Answer ℕ
 lock-done op h P (refuse a) e ok = absurd (false≢true (sym e ∙ ok))
 lock-done op h P (accept a v) q ok = q .1
 
+-- A plain acquire of a held lock is refused for everyone: by its record, whatever thread runs on the CPU.
+record-refuses : (s : SpinlockState) (tid : ℕ) (elsewhere : Bool) → held (s .owner) ≡ true → isOK (operate LockOperation.Acquire s tid elsewhere .code) ≡ false
+unfolding operate
+record-refuses s tid elsewhere taken =
+    bool-ind (λ valid. validRecord s ≡ valid → isOK (operate LockOperation.Acquire s tid elsewhere .code) ≡ false) (validRecord s)
+    (λ _ valid. ap (λ (a : Answer SpinlockState). isOK (a .code)) (acquire-of-held s tid elsewhere valid taken)) (λ _ bad. rw bad) refl
+
+rule-refuses : (s : Setup) (c : ℕ) (current : Current) (k : Lock) → held (k .state .owner) ≡ true
+    → isOK (answerOf (lockBy s LockOperation.Acquire c current k) .code) ≡ false
+rule-refuses s c Current.None k taken = refl
+rule-refuses s c (Current.Thread t) k taken =
+    let no-ok = record-refuses (k .state) (t .0) (elsewhere s c (t .0) k) taken in
+    let settles = settled s c (t .0) k (ruled s LockOperation.Acquire c (t .0) k) in
+    bool-ind (λ exists. isOK (answerOf (cond exists settles (refused EINVAL (k .state .«nest_count»))) .code) ≡ false) (isThread (t .0))
+    (λ _. rw no-ok no-ok) (λ _. refl)
+
+hold-refuses : (op : LockOperation) (h : ℕ) (o : Outcome (Answer ℕ) Lock) → isOK (answerOf o .code) ≡ false
+    → isOK (answerOf (withHold op h o) .code) ≡ false
+hold-refuses op h (refuse a) e = e
+hold-refuses op h (accept a v) e = e
+
+-- Lock l has an owner. On any machine a record that asks for a plain acquire of it is refused. (It uses no thread: its number z is any.)
+pub acquire-refused : (m : Machine) (bytes : List ℕ) (d : CpuId) (l : LockId) {z : ℕ} → held (lockAt m (l .0) .state .owner) ≡ true
+    → requestOf (m .setup) bytes ≡ request (Operation.OnLock LockOperation.Acquire) (d .0) z (l .0) → isOK (answered m bytes .code) ≡ false
+unfolding answered lockOp
+acquire-refused m bytes d l taken asks =
+    let k = lockAt m (l .0) in
+    let r = cpuAt m (d .0) .run in
+    rw asks
+    (hold-refuses LockOperation.Acquire (cpuAt m (d .0) .hold) (lockOp (m .setup) LockOperation.Acquire (d .0) r k)
+    (rule-refuses (m .setup) (d .0) (r .current) k taken))
+
 -- Lock l is held by thread t. Whoever has a call of it accepted is t, on the CPU that the lock's word names. (A call of a lock uses no thread:
 -- its number z is any.)
 module _ (m : Machine) (good : wellFormed m ≡ true) (bytes : List ℕ) (d : CpuId) (l : LockId) (t : ℕ)
@@ -70,10 +106,6 @@ module _ (m : Machine) (good : wellFormed m ≡ true) (bytes : List ℕ) (d : Cp
       let range = rw (a .asks) at (asks-in-range m w bytes) in
       lock-done op (cpuAt m (d .0) .hold) (Holder m (l .0) (d .0) t) (lockOp (m .setup) op (d .0) (cpuAt m (d .0) .run) (lockAt m (l .0)))
       (told-holder m w (d .0) (l .0) t (range .cpu) (range .lock) owned op) (rw (a .asks) at (a .ok))
-
-  -- So it is for an acquire.
-  pub acquired-by-holder : {z : ℕ} → Accepted m bytes (request (Operation.OnLock LockOperation.Acquire) (d .0) z (l .0)) → Holder m (l .0) (d .0) t
-  acquired-by-holder a = called-by-holder LockOperation.Acquire a
 
   -- So it is for a nested acquire.
   pub nested-by-holder : {z : ℕ} → Accepted m bytes (request (Operation.OnLock LockOperation.Nested) (d .0) z (l .0)) → Holder m (l .0) (d .0) t

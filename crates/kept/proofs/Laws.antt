@@ -10,7 +10,7 @@ use lib.Signed.{_≤ℤ_}
 use Rattle.error.specs.Answer.{Answer}
 use Rattle.spinlock.specs.declared.Operation.{Operation as LockOperation}
 use Rattle.order.specs.Outcome.{Outcome, refuse, accept}
-use Rattle.order.specs.Cells.{Op, commit, after}
+use Rattle.order.specs.Cells.{Op, commit, result, after}
 use Rattle.machine.specs.State.{threadCount, lockCount, cpuAt, threadAt, lockAt}
 use Rattle.machine.specs.declared.Run.{Run}
 use Rattle.machine.specs.declared.Thread.{Thread}
@@ -30,6 +30,7 @@ use Rattle.operations.specs.Cells.{run, hold, thread, lock, setThread, put, mac
 use Rattle.operations.specs.Operations.{one, two, withHold, onCpu, onLock, onThread, operationBy, operation}
 use Rattle.operations.specs.Asked.{next}
 use Rattle.operations.specs.Log.{recordAt, stateAt}
+use Rattle.operations.proofs.Turns.{writes-none}
 use Rattle.kept.proofs.Lengths.{Lengths, next-lengths}
 use Rattle.kept.proofs.Accepted.{
   Accepting,
@@ -137,7 +138,8 @@ module _ (m : Machine) (s : Lengths m) (w : WellFormed m) where
   operation-kept (Operation.OnCpu op) c t l hc ht hl p = cpu-kept op c t hc ht
   operation-kept (Operation.OnLock op) c t l hc ht hl p = lock-kept op c l hc hl
   operation-kept (Operation.OnThread op) c t l hc ht hl p = on-thread-kept op c t ht p
-  operation-kept Operation.Ipi c t l hc ht hl p = w
+  operation-kept Operation.Ipi c t l hc ht hl p =
+      rw (writes-none m (result machineStore (Answer ℕ) (operationBy (m .setup) Operation.Ipi c t l) m)) w
   operation-kept Operation.Owner c t l hc ht hl p = w
 
   -- Every request in range leaves a well-formed machine.

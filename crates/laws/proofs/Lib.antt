@@ -1,4 +1,5 @@
 pub mod Marked
+pub mod Refusals
 pub mod AnotherOrder
 pub mod AnotherOrderBytes
 pub mod Ledger

@@ -42,9 +42,9 @@ at depth = record { owner = Thread 9; «nest_count» = depth; «irq_saved» = tr
 unfoldable pub cpu : Bool → ℕ → CpuRecord
 cpu active priority = record { active = active; priority = pos priority }
 
--- M9's CPUs: priorities 9 9 5 9, CPU 3 inactive.
+-- M9's CPUs: priorities 9 9 5 9, CPU 3 inactive. The call takes sixteen; the other twelve would get the interrupt, if they were looked at.
 unfoldable pub cpus : List CpuRecord
-cpus = cpu true 9 ∷ cpu true 9 ∷ cpu true 5 ∷ cpu false 9 ∷ []
+cpus = cpu true 9 ∷ cpu true 9 ∷ cpu true 5 ∷ cpu false 9 ∷ replicate 12 (cpu true 9)
 
 -- 01, "One log entire": setup 20, and seven records, each of four bytes and eight zeros.
 unfoldable pub opened : ℕ → ℕ → ℕ → List ℕ

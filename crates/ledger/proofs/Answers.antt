@@ -23,7 +23,7 @@ use Rattle.cpu_mask.specs.Mask.{maskBits, newMask, validatePinMask, cpuMaskMod}
 use Rattle.ipi.specs.Ipi.{maxIpiCpus, countsFit, computeIpiMask}
 use Rattle.order.specs.Outcome.{Outcome, refuse, accept, answerOf}
 use Rattle.order.specs.Cells.{reply}
-use Rattle.machine.specs.State.{isThread, isCurrent, cpuAt, threadAt, lockAt}
+use Rattle.machine.specs.State.{cpuSlots, isThread, isCurrent, cpuAt, threadAt, lockAt}
 use Rattle.machine.specs.declared.Current.{Current}
 use Rattle.machine.specs.declared.Setup.{Setup}
 use Rattle.machine.specs.declared.Run.{Run}
@@ -39,6 +39,7 @@ use Rattle.operations.specs.Cells.{machineStore}
 use Rattle.operations.specs.Operations.{one, two, withHold, onCpu, onLock, onThread, operationBy}
 use Rattle.operations.specs.Asked.{answered}
 use Rattle.operations.specs.Log.{recordAt, stateAt, answerAt}
+use Rattle.operations.proofs.Turns.{ipi-says}
 use Rattle.runner.specs.Run.{ran, ranRoom}
 use Rattle.rearranged.proofs.Bytes.{place-of-run}
 use Rattle.ledger.specs.Ledger.{acceptedAt}
@@ -142,9 +143,9 @@ unfolding Rules.priority
 priority-coded a k = either CodedOutcome (Rules.placed (k .place)) _ _ (is-code Code.Ebusy) (is-code Code.Ok)
 
 -- Operations 10 and 11.
-ipi-coded : (s : Setup) (c : ℕ) (r0 r1 r2 r3 : Run) (k : Thread) → Coded (Rules.ipi s c r0 r1 r2 r3 k)
+ipi-coded : (s : Setup) (c : ℕ) (runs : List Run) (k : Thread) → Coded (Rules.ipi s c runs k)
 unfolding Rules.ipi computeIpiMask
-ipi-coded s c r0 r1 r2 r3 k = either Coded (countsFit c (s .n) maxIpiCpus) _ _ (is-code Code.Ok) (is-code Code.Einval)
+ipi-coded s c runs k = either Coded (countsFit c (s .n) maxIpiCpus) _ _ (is-code Code.Ok) (is-code Code.Einval)
 
 owner-coded : (k : Lock) → Coded (Rules.owner k)
 unfolding Rules.owner
@@ -192,7 +193,7 @@ module _ (m : Machine) where
   operation-coded (Operation.OnCpu op) c t l = cpu-request op c t
   operation-coded (Operation.OnLock op) c t l = lock-request op c l
   operation-coded (Operation.OnThread op) c t l = thread-request op c t
-  operation-coded Operation.Ipi c t l = ipi-coded (m .setup) c (runOf 0) (runOf 1) (runOf 2) (runOf 3) (threadAt m t)
+  operation-coded Operation.Ipi c t l = rw (ipi-says m (m .setup) c t l) (ipi-coded (m .setup) c (Rules.runsOf cpuSlots (m .cpus)) (threadAt m t))
   operation-coded Operation.Owner c t l = owner-coded (lockAt m l)
 
   -- Every answer has one of the seven codes.

@@ -1,6 +1,6 @@
 -- The ledger of 01: from a fresh machine of either pin-only setting and any number of CPUs, after every prefix of every log that the runner
 -- runs. The counts are of the setup, the log's bytes and the bytes that the run leaves in the answer buffer. A fresh machine's books are at 0; the rest
--- is `ledger-from`. Assumes nothing.
+-- is `records-books`. Assumes nothing.
 use mathlib.Core.Path.{_≡_, refl, ap}
 use mathlib.Core.Bool.{Bool, true, false}
 use mathlib.Core.List.{List}
@@ -22,8 +22,9 @@ use Rattle.operations.specs.Log.{stateAt}
 use Rattle.runner.specs.Run.{ran, ranRoom}
 use Rattle.kept.proofs.Lengths.{fresh-lengths}
 use Rattle.kept.proofs.Laws.{states-keep}
-use Rattle.ledger.specs.Ledger.{Book, ofLock, ofCpu, acquires, releases, balance, InBooks, freshOf}
-use Rattle.ledger.proofs.Laws.{ledger-from}
+use Rattle.ledger.specs.Ledger.{Book, ofLock, ofCpu, emptyStand, acquires, releases, balance, InBooks, freshOf}
+use Rattle.ledger.proofs.Answers.{bytes-tell}
+use Rattle.ledger.proofs.Laws.{records-books}
 
 -- A fresh machine is well-formed, and its books are at 0.
 formed-by : (n : ℕ) (pinOnly : Bool) → 1 ≤ n → n ≤ cpuSlots → wellFormed (freshOf (record { n = n; «pin_only» = pinOnly })) ≡ true
@@ -55,9 +56,8 @@ pub ledger : (s : Setup) → 1 ≤ s .n → s .n ≤ cpuSlots → (log room : Li
     ≡ acquires book s log (ranRoom (freshOf s) log room) k
 unfolding freshMachine
 ledger s some few log room ok k h book b =
-    let books = ledger-from (freshOf s) (fresh-lengths s) (fresh-formed s some few) log room ok k h book b in
-    let none = fresh-balance s book b in
-    omega (arith, books, none)
+    records-books (freshOf s) (fresh-lengths s) (fresh-formed s some few) log (ranRoom (freshOf s) log room) (length log / 12)
+    (bytes-tell (freshOf s) log room ok) k h book b emptyStand (rw (fresh-balance s book b))
 
 -- At the end, of the machine that the run hands back.
 run-end : (m : Machine) (log : List ℕ) (room : ℕ) → isOK (ran m log room .code) ≡ true → ran m log room .value ≡ stateAt m log (length log / 12)

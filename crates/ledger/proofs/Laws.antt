@@ -3,11 +3,13 @@
 use mathlib.Core.Path.{_≡_, refl, ap, _∙_}
 use mathlib.Core.Bool.{true}
 use mathlib.Core.List.{List}
-use Prim.Native.Nat.{ℕ, zero, suc, _+_, _/_, _≤_, _<_}
+use Prim.Native.Nat.{ℕ, zero, suc, _/_, _≤_, _<_}
+use native.Mathlib.Nat.{add-zero}
 use native.Mathlib.Omega.{arith}
 use lib.ListN.{length}
 use Rattle.error.specs.Codes.{isOK}
 use Rattle.error.specs.Answer.{Answer}
+use Rattle.order.proofs.Commute.{after-shape}
 use Rattle.machine.specs.declared.Machine.{Machine}
 use Rattle.wellformed.specs.WellFormed.{wellFormed}
 use Rattle.wellformed.proofs.Facts.{says}
@@ -17,9 +19,8 @@ use Rattle.operations.specs.Log.{recordAt, stateAt, answerAt}
 use Rattle.runner.specs.Run.{ran, ranRoom}
 use Rattle.kept.proofs.Lengths.{Lengths}
 use Rattle.kept.proofs.Laws.{states-keep}
-use Rattle.rearranged.proofs.Commute.{after-shape}
 use Rattle.rearranged.proofs.MachineStore.{Shape, shape, machine-laws}
-use Rattle.ledger.specs.Ledger.{Book, acceptedAt, acquires, releases, balance, InBooks}
+use Rattle.ledger.specs.Ledger.{Book, acceptedAt, Stand, standAfter, balance, Balanced, openingOf, InBooks}
 use Rattle.ledger.proofs.Answers.{bytes-tell}
 use Rattle.ledger.proofs.Records.{record-books}
 
@@ -35,25 +36,23 @@ states-setup m log (suc k) =
 abbrev pub Tell : Machine → List ℕ → List ℕ → ℕ → Type 0
 Tell m log answers count = (k : ℕ) → k < count → acceptedAt answers k ≡ isOK (answerAt m log k .code)
 
--- Where they do, the books are kept from record to record. This is so of a log of any length, also of one that is too long to run.
+-- Where they do, the books are kept from record to record: a stand that balances at the start goes on to balance. This is so of a log of any
+-- length, also of one that is too long to run.
 pub records-books : (m : Machine) → Lengths m → wellFormed m ≡ true → (log answers : List ℕ) (count : ℕ) → Tell m log answers count
-    → (k : ℕ) → k ≤ count → (book : Book) → InBooks book
-    → balance (stateAt m log k) book + releases book (m .setup) log answers k ≡ balance m book + acquires book (m .setup) log answers k
-unfolding stateAt acquires releases
-records-books m s good log answers count tell zero h book b = refl
-records-books m s good log answers count tell (suc k) h book b =
-    let before : balance (stateAt m log k) book + releases book (m .setup) log answers k ≡ balance m book + acquires book (m .setup) log answers k =
-    records-books m s good log answers count tell k (omega arith) book b in
+    → (k : ℕ) → k ≤ count → (book : Book) → InBooks book → (opening : Stand) → Balanced m book opening
+    → Balanced (stateAt m log k) book (standAfter book (m .setup) log answers opening k)
+unfolding stateAt standAfter
+records-books m s good log answers count tell zero h book b opening start = start
+records-books m s good log answers count tell (suc k) h book b opening start =
+    let before = records-books m s good log answers count tell k (omega arith) book b opening start in
     let kept = states-keep m s log k good in
-    let one = record-books (stateAt m log k) (kept .0) (says (stateAt m log k) (kept .1)) (recordAt log k) book b in
-    let here = rw (states-setup m log k, ← tell k (omega arith)) at one in
-    omega (arith, before, here)
+    let one = record-books (stateAt m log k) (kept .0) (says (stateAt m log k) (kept .1)) (recordAt log k) book b _ before in
+    rw (states-setup m log k, ← tell k (omega arith)) at one
 
--- From any well-formed machine that runs a log, after every prefix: what a book has then and its accepted releases are together what it had at
--- the start and its accepted acquires.
+-- From any well-formed machine that runs a log, after every prefix, from the machine's own opening stand: what a book's owner has then and the
+-- releases are together the acquires.
 pub ledger-from : (m : Machine) → Lengths m → wellFormed m ≡ true → (log room : List ℕ) → isOK (ran m log (length room) .code) ≡ true
     → (k : ℕ) → k ≤ length log / 12 → (book : Book) → InBooks book
-    → balance (stateAt m log k) book + releases book (m .setup) log (ranRoom m log room) k
-    ≡ balance m book + acquires book (m .setup) log (ranRoom m log room) k
+    → Balanced (stateAt m log k) book (standAfter book (m .setup) log (ranRoom m log room) (openingOf m book) k)
 ledger-from m s good log room ok k h book b =
-    records-books m s good log (ranRoom m log room) (length log / 12) (bytes-tell m log room ok) k h book b
+    records-books m s good log (ranRoom m log room) (length log / 12) (bytes-tell m log room ok) k h book b (openingOf m book) (add-zero (balance m book))

@@ -1,8 +1,8 @@
 -- Each record keeps the books: an accepted acquire or release moves its lock's depth and its CPU's hold by one, and everything else leaves
 -- them. By the operation's family. Assumes nothing.
-use mathlib.Core.Path.{_≡_, refl, ap, ap₂, sym, _∙_}
+use mathlib.Core.Path.{_≡_, refl, ap, sym, _∙_}
 use mathlib.Core.Logic.{_≢_}
-use mathlib.Core.Bool.{Bool}
+use mathlib.Core.Bool.{Bool, true, false}
 use mathlib.Core.List.{List, [], _∷_}
 use Prim.Native.Nat.{ℕ, _+_, _<_}
 use native.Mathlib.Omega.{arith}
@@ -13,6 +13,8 @@ use Rattle.error.specs.Answer.{Answer}
 use Rattle.spinlock.specs.declared.Operation.{Operation as LockOperation}
 use Rattle.order.specs.Outcome.{Outcome, refuse, accept, answerOf}
 use Rattle.order.specs.Cells.{Op, commit, after, reply}
+use Rattle.order.specs.Clash.{In, here, there}
+use Rattle.order.proofs.Commute.{after-other}
 use Rattle.machine.specs.State.{cpuSlots, lockCount, cpuAt, lockAt}
 use Rattle.machine.specs.declared.Setup.{Setup}
 use Rattle.machine.specs.declared.Cpu.{Cpu}
@@ -30,10 +32,27 @@ use Rattle.operations.specs.Asked.{answered, next}
 use Rattle.kept.proofs.Lengths.{Lengths}
 use Rattle.kept.proofs.Ranges.{asks-in-range}
 use Rattle.kept.proofs.Stored.{cpu-there, cpu-elsewhere, lock-there, lock-elsewhere}
-use Rattle.rearranged.specs.Clash.{In, here, there}
-use Rattle.rearranged.proofs.Commute.{after-other}
 use Rattle.rearranged.proofs.MachineStore.{Shape, shape, machine-laws}
-use Rattle.ledger.specs.Ledger.{kindOf, Call, called, other, callBy, callOf, Book, ofLock, ofCpu, up, down, acquired, released, counted, balance, InBooks}
+use Rattle.ledger.specs.Ledger.{
+  kindOf,
+  Call,
+  called,
+  other,
+  callBy,
+  callOf,
+  Book,
+  ofLock,
+  ofCpu,
+  mine,
+  up,
+  down,
+  Stand,
+  posted,
+  settled,
+  balance,
+  Balanced,
+  InBooks,
+}
 use Rattle.kept.proofs.Walk.{Told}
 use Rattle.ledger.proofs.Moves.{Moves, lock-told}
 
@@ -42,10 +61,10 @@ abbrev cellOf : Book → Cell
 cellOf (ofLock l) = lock l
 cellOf (ofCpu c) = hold c
 
--- One record keeps the books.
+-- One record keeps the books: a stand that balances goes on to balance.
 abbrev Kept : Machine → Machine → Bool → Call → Type 0
 Kept m then accepted call =
-    (book : Book) → InBooks book → balance then book + counted accepted (released book call) ≡ balance m book + counted accepted (acquired book call)
+    (book : Book) → InBooks book → (stand : Stand) → Balanced m book stand → Balanced then book (settled book accepted call stand)
 
 abbrev doing : Machine → Op machineStore (Answer ℕ) → Machine
 doing m o = after machineStore (Answer ℕ) m o
@@ -76,58 +95,61 @@ neither : {c d e : Cell} → c ≢ d → c ≢ e → In c (d ∷ e ∷ []) → �
 neither n k (here e) = n e
 neither n k (there i) = only k i
 
--- A record that is no call of a lock keeps them.
+-- What is no call of a lock is posted to no book, accepted or not.
+not-posted : (book : Book) (accepted : Bool) (stand : Stand) → settled book accepted other stand ≡ stand
+not-posted book true stand = refl
+not-posted book false stand = refl
+
+-- So a record that asks for something else keeps them.
 aside : (m : Machine) (o : Op machineStore (Answer ℕ)) → ((book : Book) → ¬ (In (cellOf book) (o .writes)))
     → Kept m (doing m o) (isOK (reply machineStore (Answer ℕ) m o .code)) other
-aside m o out book b = ap (λ n. n + counted (isOK (reply machineStore (Answer ℕ) m o .code)) 0) (balance-same m o book (out book))
+aside m o out book b stand before =
+    rw (not-posted book (isOK (reply machineStore (Answer ℕ) m o .code)) stand, balance-same m o book (out book)) before
 
 -- A call of lock k by CPU c keeps the books.
 module _ (m : Machine) (s : Lengths m) (op : LockOperation) (c k : ℕ) (hc : c < cpuSlots) (hk : k < lockCount) where
   abbrev stored : Outcome (Answer ℕ) Lock → Machine
   stored o = commit machineStore (Answer ℕ) (lock k ∷ hold c ∷ []) (withHold op (cpuAt m c .hold) o) m
 
-  abbrev Balanced : Book → Lock → Answer ℕ → Type 0
-  Balanced book v a = balance (stored (accept a v)) book + released book (called (kindOf op) c k) ≡ balance m book + acquired book (called (kindOf op) c k)
+  -- The book's balance moves with the call, and the call is posted to it; or neither.
+  moved-with : (book : Book) (later : Machine) (stand : Stand) → mine book c k ≡ true
+      → balance later book + down (kindOf op) ≡ balance m book + up (kindOf op) → Balanced m book stand
+      → Balanced later book (posted book (called (kindOf op) c k) stand)
+  moved-with book later stand own moves before = rw own (omega (arith, moves, before))
 
-  lock-balanced : (l : ℕ) (v : Lock) (a : Answer ℕ) → Moves m op c k v → Balanced (ofLock l) v a
-  lock-balanced l v a moves = go (ℕ-discrete l k)
+  stays-with : (book : Book) (later : Machine) (stand : Stand) → mine book c k ≡ false → balance later book ≡ balance m book → Balanced m book stand
+      → Balanced later book (posted book (called (kindOf op) c k) stand)
+  stays-with book later stand others same before = rw (others, same) before
+
+  posted-kept : (book : Book) (v : Lock) (a : Answer ℕ) → Moves m op c k v → (stand : Stand) → Balanced m book stand
+      → Balanced (stored (accept a v)) book (posted book (called (kindOf op) c k) stand)
+  posted-kept (ofLock l) v a moves stand before = go (ℕ-discrete l k)
     where
-      go : Dec (l ≡ k) → Balanced (ofLock l) v a
+      go : Dec (l ≡ k) → Balanced (stored (accept a v)) (ofLock l) (posted (ofLock l) (called (kindOf op) c k) stand)
       go (yes e) =
-          let now : balance (stored (accept a v)) (ofLock k) ≡ v .state .«nest_count» = ap (λ (x : Lock). x .state .«nest_count») (lock-there m s k v hk) in
-          let less : released (ofLock k) (called (kindOf op) c k) ≡ down (kindOf op) = rw (eq-eqb k k refl) in
-          let more : acquired (ofLock k) (called (kindOf op) c k) ≡ up (kindOf op) = rw (eq-eqb k k refl) in
-          rw e (ap₂ _+_ now less ∙ moves .depth ∙ ap (λ n. balance m (ofLock k) + n) (sym more))
+          let now : balance (stored (accept a v)) (ofLock l) ≡ v .state .«nest_count» =
+          rw e (ap (λ (x : Lock). x .state .«nest_count») (lock-there m s k v hk)) in
+          moved-with (ofLock l) (stored (accept a v)) stand (eq-eqb k l (sym e))
+          (ap (λ n. n + down (kindOf op)) now ∙ moves .depth ∙ ap (λ i. lockAt m i .state .«nest_count» + up (kindOf op)) (sym e)) before
       go (no differs) =
-          let now : balance (stored (accept a v)) (ofLock l) ≡ balance m (ofLock l) =
-          ap (λ (x : Lock). x .state .«nest_count») (lock-elsewhere m k v l differs) in
-          let less : released (ofLock l) (called (kindOf op) c k) ≡ 0 = rw (ne-eqb k l (λ e. differs (sym e))) in
-          let more : acquired (ofLock l) (called (kindOf op) c k) ≡ 0 = rw (ne-eqb k l (λ e. differs (sym e))) in
-          ap₂ _+_ now (less ∙ sym more)
-
-  hold-balanced : (d : ℕ) (v : Lock) (a : Answer ℕ) → Moves m op c k v → Balanced (ofCpu d) v a
-  hold-balanced d v a moves = go (ℕ-discrete d c)
+          stays-with (ofLock l) (stored (accept a v)) stand (ne-eqb k l (λ e. differs (sym e)))
+          (ap (λ (x : Lock). x .state .«nest_count») (lock-elsewhere m k v l differs)) before
+  posted-kept (ofCpu d) v a moves stand before = go (ℕ-discrete d c)
     where
-      go : Dec (d ≡ c) → Balanced (ofCpu d) v a
+      go : Dec (d ≡ c) → Balanced (stored (accept a v)) (ofCpu d) (posted (ofCpu d) (called (kindOf op) c k) stand)
       go (yes e) =
-          let now : balance (stored (accept a v)) (ofCpu c) ≡ Rules.moved op (cpuAt m c .hold) = ap (λ (x : Cpu). x .hold) (cpu-there m s c _ hc) in
-          let less : released (ofCpu c) (called (kindOf op) c k) ≡ down (kindOf op) = rw (eq-eqb c c refl) in
-          let more : acquired (ofCpu c) (called (kindOf op) c k) ≡ up (kindOf op) = rw (eq-eqb c c refl) in
-          rw e (ap₂ _+_ now less ∙ moves .hold ∙ ap (λ n. balance m (ofCpu c) + n) (sym more))
+          let now : balance (stored (accept a v)) (ofCpu d) ≡ Rules.moved op (cpuAt m c .hold) =
+          rw e (ap (λ (x : Cpu). x .hold) (cpu-there m s c _ hc)) in
+          moved-with (ofCpu d) (stored (accept a v)) stand (eq-eqb c d (sym e))
+          (ap (λ n. n + down (kindOf op)) now ∙ moves .hold ∙ ap (λ i. cpuAt m i .hold + up (kindOf op)) (sym e)) before
       go (no differs) =
-          let now : balance (stored (accept a v)) (ofCpu d) ≡ balance m (ofCpu d) = ap (λ (x : Cpu). x .hold) (cpu-elsewhere m c _ d differs) in
-          let less : released (ofCpu d) (called (kindOf op) c k) ≡ 0 = rw (ne-eqb c d (λ e. differs (sym e))) in
-          let more : acquired (ofCpu d) (called (kindOf op) c k) ≡ 0 = rw (ne-eqb c d (λ e. differs (sym e))) in
-          ap₂ _+_ now (less ∙ sym more)
-
-  balanced : (book : Book) (v : Lock) (a : Answer ℕ) → Moves m op c k v → Balanced book v a
-  balanced (ofLock l) v a moves = lock-balanced l v a moves
-  balanced (ofCpu d) v a moves = hold-balanced d v a moves
+          stays-with (ofCpu d) (stored (accept a v)) stand (ne-eqb c d (λ e. differs (sym e)))
+          (ap (λ (x : Cpu). x .hold) (cpu-elsewhere m c _ d differs)) before
 
   call-kept : (o : Outcome (Answer ℕ) Lock) → Told (Moves m op c k) o
       → Kept m (stored o) (isOK (answerOf (withHold op (cpuAt m c .hold) o) .code)) (called (kindOf op) c k)
-  call-kept (refuse a) no-ok book b = rw no-ok
-  call-kept (accept a v) told book b = rw (told .0) (balanced book v a (told .1))
+  call-kept (refuse a) no-ok book b stand before = rw no-ok before
+  call-kept (accept a v) told book b stand before = rw (told .0) (posted-kept book v a (told .1) stand before)
 
 -- An operation on a CPU or a thread writes no cell of a book.
 cpu-outside : (op : CpuOperation) (c t : ℕ) (book : Book) → ¬ (In (cellOf book) (onCpu op c t .writes))

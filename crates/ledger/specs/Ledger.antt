@@ -1,4 +1,5 @@
 -- Demand 3, the ledger: what is counted. A count is a function of the setup, of the log's bytes and of the answer bytes; no machine is in it.
+use mathlib.Core.Path.{_≡_}
 use mathlib.Core.Bool.{Bool, cond}
 use mathlib.Core.List.{List}
 use Prim.Native.Nat.{ℕ, zero, suc, _+_, _<_}
@@ -69,34 +70,54 @@ abbrev pub down : Kind → ℕ
 down acquire = 0
 down release = 1
 
--- 1 for an acquire that goes into this book.
-abbrev pub acquired : Book → Call → ℕ
-acquired book (called kind cpu lock) = cond (mine book cpu lock) (up kind) 0
-acquired book other = 0
+-- The stand of a book: the acquires and the releases that were posted to it.
+pub record Stand : Type 0 where
+  pub acquires : ℕ
+  pub releases : ℕ
 
--- 1 for a release that goes into this book.
-abbrev pub released : Book → Call → ℕ
-released book (called kind cpu lock) = cond (mine book cpu lock) (down kind) 0
-released book other = 0
+-- The stand after one call more.
+abbrev pub entered : Kind → Stand → Stand
+entered kind stand = record { acquires = stand .acquires + up kind; releases = stand .releases + down kind }
 
--- What a record counts for: nothing if it was refused.
-abbrev pub counted : Bool → ℕ → ℕ
-counted accepted count = cond accepted count 0
+-- A call is posted to the books that it goes into, anything else to none.
+abbrev pub posted : Book → Call → Stand → Stand
+posted book (called kind cpu lock) stand = cond (mine book cpu lock) (entered kind stand) stand
+posted book other stand = stand
+
+-- A record is posted if it was accepted.
+abbrev pub settled : Book → Bool → Call → Stand → Stand
+settled book accepted call stand = cond accepted (posted book call stand) stand
+
+-- The stand of a book after the first k records, from an opening stand: one fold over the log's bytes and the answer bytes.
+unfoldable pub standAfter : Book → Setup → List ℕ → List ℕ → Stand → ℕ → Stand
+standAfter book s log answers opening zero = opening
+standAfter book s log answers opening (suc k) =
+    settled book (acceptedAt answers k) (callAt s log k) (standAfter book s log answers opening k)
+
+-- A book in which nothing stands.
+abbrev pub emptyStand : Stand
+emptyStand = record { acquires = 0; releases = 0 }
 
 -- Accepted acquires among the first k records: of a book, the setup, the log's bytes and the answer bytes.
-unfoldable pub acquires : Book → Setup → List ℕ → List ℕ → ℕ → ℕ
-acquires book s log answers zero = 0
-acquires book s log answers (suc k) = acquires book s log answers k + counted (acceptedAt answers k) (acquired book (callAt s log k))
+abbrev pub acquires : Book → Setup → List ℕ → List ℕ → ℕ → ℕ
+acquires book s log answers k = standAfter book s log answers emptyStand k .acquires
 
 -- Accepted releases among the first k records.
-unfoldable pub releases : Book → Setup → List ℕ → List ℕ → ℕ → ℕ
-releases book s log answers zero = 0
-releases book s log answers (suc k) = releases book s log answers k + counted (acceptedAt answers k) (released book (callAt s log k))
+abbrev pub releases : Book → Setup → List ℕ → List ℕ → ℕ → ℕ
+releases book s log answers k = standAfter book s log answers emptyStand k .releases
 
 -- What a book's owner has: a lock its depth, a CPU its hold.
 abbrev pub balance : Machine → Book → ℕ
 balance m (ofLock l) = lockAt m l .state .«nest_count»
 balance m (ofCpu c) = cpuAt m c .hold
+
+-- What the owner has and the releases are together the acquires.
+abbrev pub Balanced : Machine → Book → Stand → Type 0
+Balanced m book stand = balance m book + stand .releases ≡ stand .acquires
+
+-- The stand with which a machine's book is opened: what its owner has counts as acquired.
+abbrev pub openingOf : Machine → Book → Stand
+openingOf m book = record { acquires = balance m book; releases = 0 }
 
 -- There is such a lock, or such a CPU.
 abbrev pub InBooks : Book → Type 0

@@ -1,16 +1,18 @@
 -- Storing what the code loaded and its rule gave back is the operation: what a request does not name is stored as it was, which changes
 -- nothing. A law for each family. Assumes nothing.
 use mathlib.Core.Path.{_≡_, refl, sym, ap, _∙_}
-use mathlib.Core.List.{List, [], _∷_}
-use Prim.Native.Nat.{ℕ}
+use mathlib.Core.List.{List, [], _∷_, _++_}
+use Prim.Native.Nat.{ℕ, zero, suc}
 use lib.ListN.{set}
 use lib.Seq.{set-getD}
 use Rattle.error.specs.Codes.{EINVAL}
 use Rattle.error.specs.Answer.{Answer, answer}
 use Rattle.order.specs.Outcome.{Outcome, refuse, accept, answerOf, cellsAfter}
-use Rattle.order.specs.Cells.{Op, commit, after, reply}
+use Rattle.order.specs.Cells.{Op, result, commit, after, reply}
+use Rattle.order.proofs.Every.{values, feed-gather}
 use Rattle.spinlock.specs.declared.Operation.{Operation as LockOperation}
-use Rattle.machine.specs.State.{noCpu, noThread, freeLock, cpuAt, threadAt, lockAt}
+use Rattle.machine.specs.State.{cpuSlots, noCpu, noThread, freeLock, cpuAt, threadAt, lockAt}
+use Rattle.machine.specs.declared.Setup.{Setup}
 use Rattle.machine.specs.declared.Run.{Run}
 use Rattle.machine.specs.declared.Cpu.{Cpu}
 use Rattle.machine.specs.declared.Thread.{Thread}
@@ -23,7 +25,7 @@ use Rattle.record.specs.declared.Operation.{Operation}
 use Rattle.record.specs.declared.Request.{Request}
 use Rattle.rules.specs.Rules as Rules
 use Rattle.operations.specs.Cells.{run, hold, thread, lock, setThread, machineStore}
-use Rattle.operations.specs.Operations.{one, two, withHold, onCpu, onLock, onThread, operationBy, operation}
+use Rattle.operations.specs.Operations.{one, two, none, withHold, onCpu, onLock, onThread, operationBy, operation}
 use Rattle.operations.specs.Asked.{answered, next}
 
 -- A CPU and a lock are stored, or a CPU and a thread.
@@ -102,6 +104,24 @@ module _ (m : Machine) (c : ℕ) where
         let o = Rules.lockOp (m .setup) op c (cpuAt m c .run) (lockAt m l) in
         (answer-hold op (cpuAt m c .hold) o, store-lock op o)
 
+-- The run cells that ipi is fed are those of the machine's CPUs.
+runs-fed : (m : Machine) (k : ℕ) → values machineStore run (λ _ r. r) m k ≡ Rules.runsOf k (m .cpus)
+unfolding values
+runs-fed m zero = refl
+runs-fed m (suc k) = ap (λ (runs : List Run). runs ++ (cpuAt m k .run ∷ [])) (runs-fed m k)
+
+-- What ipi answers: the rule on every run cell and the thread. It writes nothing.
+pub ipi-says : (m : Machine) (s : Setup) (c t l : ℕ)
+    → reply machineStore (Answer ℕ) m (operationBy s Operation.Ipi c t l) ≡ Rules.ipiOf s c (m .cpus) (threadAt m t)
+ipi-says m s c t l =
+    ap answerOf (feed-gather machineStore (Outcome (Answer ℕ) (Unit {0})) run (λ _ r. r) cpuSlots (thread t ∷ []) [] (λ runs k. none (Rules.ipi s c runs k)) m)
+    ∙ ap (λ (runs : List Run). Rules.ipi s c runs (threadAt m t)) (runs-fed m cpuSlots)
+
+-- An operation that writes no cell leaves the machine.
+pub writes-none : (m : Machine) (o : Outcome (Answer ℕ) (Unit {0})) → commit machineStore (Answer ℕ) [] o m ≡ m
+writes-none m (refuse a) = refl
+writes-none m (accept a w) = refl
+
 module _ (m : Machine) (t : ℕ) where
   store-thread : (o : Outcome (Answer ℕ) Thread) → setThread m t (cellsAfter (threadAt m t) o) ≡ commit machineStore (Answer ℕ) (thread t ∷ []) (one o) m
   store-thread (refuse a) = rw (same-thread m 0 t)
@@ -154,7 +174,9 @@ module _ (m : Machine) (bytes : List ℕ) where
 
     pub ipi-turned : r .operation ≡ Operation.Ipi → (a : Answer ℕ)
         → a ≡ Rules.ipiOf (m .setup) (r .cpu .0) (m .cpus) (threadAt m (r .thread .0)) → Becomes a m
-    ipi-turned e a is = rw is (becomes e (refl, refl))
+    ipi-turned e a is =
+        let o = operationBy (m .setup) Operation.Ipi (r .cpu .0) (r .thread .0) (r .lock .0) in
+        becomes e (is ∙ sym (ipi-says m (m .setup) (r .cpu .0) (r .thread .0) (r .lock .0)), sym (writes-none m (result machineStore (Answer ℕ) o m)))
 
     pub owner-turned : r .operation ≡ Operation.Owner → (a : Answer ℕ) → a ≡ Rules.owner (lockAt m (r .lock .0)) → Becomes a m
     owner-turned e a is = rw is (becomes e (refl, refl))

@@ -1,8 +1,10 @@
 -- 01, "The machine", "Cells": for each CPU a run cell and a hold cell; each lock; each thread.
 use Prim.Native.Nat.{ℕ}
+use mathlib.Core.List.{List, _++_}
 use lib.ListN.{set}
-use Rattle.order.specs.Cells.{Store}
-use Rattle.machine.specs.State.{cpuAt, threadAt, lockAt}
+use Rattle.order.specs.Cells.{Store, Fn}
+use Rattle.order.specs.Every.{every, gather}
+use Rattle.machine.specs.State.{cpuSlots, cpuAt, threadAt, lockAt}
 use Rattle.machine.specs.declared.Run.{Run}
 use Rattle.machine.specs.declared.Cpu.{Cpu}
 use Rattle.machine.specs.declared.Thread.{Thread}
@@ -47,3 +49,11 @@ put (lock l) v m = setLock m l v
 
 abbrev pub machineStore : Store
 machineStore = record { Cell = Cell; Val = Val; M = Machine; get = get; put = put }
+
+-- Every run cell, and then the rest.
+abbrev pub everyRun : List Cell → List Cell
+everyRun rest = every machineStore run cpuSlots rest
+
+-- A function of every run cell's value, CPU 0's first, and of the values of the rest and of more cells.
+abbrev pub ofRuns : (X : Type 0) (rest more : List Cell) → (List Run → Fn machineStore (rest ++ more) X) → Fn machineStore (everyRun rest ++ more) X
+ofRuns X rest more f = gather machineStore X run (λ _ r. r) cpuSlots rest more f

@@ -14,7 +14,7 @@ use Rattle.record.specs.declared.ThreadOperation.{ThreadOperation}
 use Rattle.record.specs.declared.Operation.{Operation}
 use Rattle.record.specs.declared.Request.{Request}
 use Rattle.rules.specs.Rules as Rules
-use Rattle.operations.specs.Cells.{run, hold, thread, lock, machineStore}
+use Rattle.operations.specs.Cells.{run, hold, thread, lock, machineStore, everyRun, ofRuns}
 
 -- One cell's new value, two cells', or none, as an operation hands them back.
 abbrev pub one : {A W : Type 0} → Outcome A W → Outcome A (W × Unit {0})
@@ -60,9 +60,9 @@ operationBy s (Operation.OnLock op) c t l = onLock s op c l
 operationBy s (Operation.OnThread op) c t l = onThread s op c t
 operationBy s Operation.Ipi c t l =
     record {
-      reads = run 0 ∷ run 1 ∷ run 2 ∷ run 3 ∷ thread t ∷ [];
+      reads = everyRun (thread t ∷ []);
       writes = [];
-      body = λ r0 r1 r2 r3 k. none (Rules.ipi s c r0 r1 r2 r3 k);
+      body = ofRuns (Outcome (Answer ℕ) (Unit {0})) (thread t ∷ []) [] (λ runs k. none (Rules.ipi s c runs k));
     }
 operationBy s Operation.Owner c t l = record { reads = lock l ∷ []; writes = []; body = λ k. none (Rules.owner k) }
 

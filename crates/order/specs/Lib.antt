@@ -1,2 +1,5 @@
 pub mod Outcome
 pub mod Cells
+pub mod Clash
+pub mod Every
+pub mod Reordered

@@ -19,7 +19,8 @@ use Rattle.rules.specs.Rules.{up, put}
 use Rattle.operations.specs.Cells.{Cell, run, hold, thread, lock}
 use Rattle.operations.specs.Asked.{answered, next}
 use Rattle.operations.specs.Log.{recordAt, stateAt, answerAt}
-use Rattle.rearranged.specs.Clash.{Footprint, In, here, there, Clash, writes-first, writes-second, footprint}
+use Rattle.order.specs.Clash.{Footprint, In, here, there, Clash, writes-first, writes-second}
+use Rattle.rearranged.specs.Clash.{footprint}
 use Rattle.rearranged.specs.Rearranged.{Rearranged}
 use Rattle.rearranged.specs.Exhibit.{twoCpus, oneByOne, interleaved, came, turnedRound, turned}
 
@@ -77,10 +78,10 @@ in-meet c [] ds i j = elim i [ ]
 in-meet c (b ∷ cs) ds (here e) j = or-left (among b ds) (meet cs ds) (ap (λ x. among x ds) (sym e) ∙ in-among c ds j)
 in-meet c (b ∷ cs) ds (there i) j = or-right (among b ds) (meet cs ds) (in-meet c cs ds i j)
 
-clashing : Footprint → Footprint → Bool
+clashing : Footprint Cell → Footprint Cell → Bool
 clashing a b = meet (a .writes) (b .reads ++ b .writes) || meet (a .reads ++ a .writes) (b .writes)
 
-clash-clashing : (a b : Footprint) → Clash a b → clashing a b ≡ true
+clash-clashing : (a b : Footprint Cell) → Clash a b → clashing a b ≡ true
 unfolding clashing
 clash-clashing a b (writes-first c i j) = or-left (meet (a .writes) (b .reads ++ b .writes)) _ (in-meet c (a .writes) _ i j)
 clash-clashing a b (writes-second c i j) = or-right (meet (a .writes) (b .reads ++ b .writes)) _ (in-meet c (a .reads ++ a .writes) _ i j)
@@ -96,7 +97,7 @@ below-four P a b c d (suc (suc (suc (suc k)))) h = absurd (omega arith)
 -- On two CPUs with either pin-only setting.
 module _ (pinOnly : Bool) where
   -- The row of a record of the interleaved log.
-  abbrev rowAt : ℕ → Footprint
+  abbrev rowAt : ℕ → Footprint Cell
   rowAt k = footprint (twoCpus pinOnly) (recordAt interleaved k)
 
   -- Two of them do not clash, by the test.

@@ -5,6 +5,9 @@ use mathlib.Core.List.{List}
 use Prim.Native.Nat.{ℕ, zero, suc}
 use Rattle.error.specs.Answer.{Answer}
 use Rattle.order.specs.Cells.{Op, after, reply}
+use Rattle.order.specs.Clash.{Clash, cellsOf}
+use Rattle.order.proofs.Sequence.{Swap, Same, end, answer, end-last, rearrange}
+use Rattle.order.proofs.Commute.{clash-free, after-shape}
 use Rattle.spinlock.specs.declared.Operation.{Operation as LockOperation}
 use Rattle.machine.specs.declared.Setup.{Setup}
 use Rattle.machine.specs.declared.Machine.{Machine}
@@ -17,17 +20,11 @@ use Rattle.operations.specs.Cells.{machineStore}
 use Rattle.operations.specs.Operations.{onCpu, onLock, onThread, operationBy, operation}
 use Rattle.operations.specs.Asked.{answered, next}
 use Rattle.operations.specs.Log.{recordAt, stateAt, answerAt}
-use Rattle.rearranged.specs.Clash.{Footprint, rowOnCpu, rowOnLock, rowOnThread, rowBy, row, footprint, Clash, writes-first, writes-second}
+use Rattle.rearranged.specs.Clash.{rowOnCpu, rowOnLock, rowOnThread, rowBy, row, footprint}
 use Rattle.rearranged.specs.Rearranged.{Rearranged, SameRun}
-use Rattle.rearranged.proofs.Sequence.{Swap, Same, end, answer, end-last, rearrange}
-use Rattle.rearranged.proofs.Commute.{swap, after-shape}
 use Rattle.rearranged.proofs.MachineStore.{Shape, shape, machine-laws}
 
--- An operation's own cells are those of its row in the table.
-abbrev cellsOf : Op machineStore (Answer ℕ) → Footprint
-cellsOf o = record { reads = o .reads; writes = o .writes }
-
--- So it is of each family, and of every request.
+-- An operation's own cells are those of its row in the table: of each family, and of every request.
 cpu-row : (op : CpuOperation) (c t : ℕ) → cellsOf (onCpu op c t) ≡ rowOnCpu op c t
 cpu-row CpuOperation.Up c t = refl
 cpu-row CpuOperation.Down c t = refl
@@ -75,8 +72,7 @@ module _ (s : Shape) where
   swapped : (m : Machine) (a b : List ℕ) → Unit {0} → ¬ (Clashes b a) → Swap steps replies m a b
   swapped m a b i free =
       let both : Swap (after machineStore (Answer ℕ)) (reply machineStore (Answer ℕ)) m (asks a) (asks b) =
-      swap machineStore (Answer ℕ) Shape shape machine-laws m (asks a) (asks b)
-      (λ c i j. apart b a free (writes-first c i j)) (λ c i j. apart b a free (writes-second c j i)) in
+      clash-free machineStore (Answer ℕ) Shape shape machine-laws m (asks a) (asks b) (apart b a free) in
       record { state = both .state; first = both .first; second = both .second }
 
   end-shape : (k : ℕ) (m : Machine) (f : ℕ → List ℕ) → shape (end steps replies m f k) ≡ shape m

@@ -1,6 +1,3 @@
-pub mod Positions
-pub mod Sequence
-pub mod Commute
 pub mod MachineStore
 pub mod Places
 pub mod Laws

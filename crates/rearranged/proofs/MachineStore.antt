@@ -13,7 +13,7 @@ use Rattle.machine.specs.declared.Setup.{Setup}
 use Rattle.machine.specs.declared.Cpu.{Cpu}
 use Rattle.machine.specs.declared.Machine.{Machine}
 use Rattle.operations.specs.Cells.{Cell, run, hold, thread, lock, Cell-discrete, Val, get, put, machineStore}
-use Rattle.rearranged.proofs.Commute.{Laws}
+use Rattle.order.proofs.Commute.{Laws}
 
 -- What no operation changes.
 pub record Shape : Type 0 where

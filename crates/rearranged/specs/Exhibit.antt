@@ -27,7 +27,7 @@ interleaved = bringUp 1 ++ (bringUp 0 ++ (bring 1 4 ++ bring 0 3))
 abbrev pub came : ℕ → ℕ
 came k = getD (2 ∷ 0 ∷ 3 ∷ 1 ∷ []) k 0
 
--- CPU 0's two records turned round: put before up. They clash, and both answers change.
+-- CPU 0's two records turned round: put before up. They clash, and the answer to the put changes.
 abbrev pub turnedRound : List ℕ
 turnedRound = bring 0 3 ++ (bringUp 0 ++ (bringUp 1 ++ bring 1 4))
 

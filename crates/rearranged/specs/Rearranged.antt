@@ -5,23 +5,14 @@ use mathlib.Core.List.{List, _∷_}
 use Prim.Native.Nat.{ℕ, _*_, _/_, _<_}
 use lib.ListN.{length, take, drop}
 use Rattle.error.specs.Codes.{isOK}
+use Rattle.order.specs.Clash.{Clash}
+use Rattle.order.specs.Reordered.{Reordered}
 use Rattle.machine.specs.declared.Setup.{Setup}
 use Rattle.machine.specs.declared.Machine.{Machine}
 use Rattle.operations.specs.Log.{recordAt, stateAt, answerAt}
 use Rattle.runner.specs.Run.{ran, ranRoom}
 use Rattle.program.specs.Program.{inputCode, respondSize, respondRoom}
-use Rattle.rearranged.specs.Clash.{Clash, footprint}
-
--- π is a permutation of the positions below n.
-pub record Permutes (n : ℕ) (π : ℕ → ℕ) : Type 0 where
-  pub below : (k : ℕ) → k < n → π k < n
-  pub once : (j k : ℕ) → j < n → k < n → π j ≡ π k → j ≡ k
-
--- The new sequence is the old one rearranged by π, and two elements whose order is to be kept keep it.
-pub record Reordered {R : Type 0} (Keep : R → R → Type 0) (n : ℕ) (old new : ℕ → R) (π : ℕ → ℕ) : Type 0 where
-  pub permutes : Permutes n π
-  pub moved : (k : ℕ) → k < n → new k ≡ old (π k)
-  pub kept : (j k : ℕ) → j < k → k < n → Keep (new j) (new k) → π j < π k
+use Rattle.rearranged.specs.Clash.{footprint}
 
 -- A log of `count` records is rearranged on a machine of this setup: two records that clash keep their order.
 abbrev pub Rearranged : Setup → ℕ → List ℕ → List ℕ → (ℕ → ℕ) → Type 0

@@ -1,8 +1,8 @@
 -- 01, "Log records": the twelve operations, each a function of the cells that it names. The tests stand in the order of 01's table, after the
 -- form test; a value on a refusal is the one that stands after the unchanged call.
-use Prim.Native.Nat.{ℕ, _+_, _-_, _%_, _^_}
+use Prim.Native.Nat.{ℕ, zero, suc, _+_, _-_, _%_, _^_}
 use mathlib.Core.Bool.{Bool, true, false, _||_, not, cond}
-use mathlib.Core.List.{List, _∷_}
+use mathlib.Core.List.{List, [], _∷_, _++_, map}
 use lib.Dec.{eqb, ltb}
 use lib.IntN.{ℤ}
 use lib.ListN.{getD, replicate}
@@ -17,7 +17,7 @@ use Rattle.cpu_mask.specs.Mask.{maskBits, cpuMaskMod, cpuPinCompute}
 use Rattle.ipi.specs.Ipi.{maxIpiCpus, noCpu as Ipi·noCpu, computeIpiMask}
 use Rattle.ipi.specs.declared.CpuRecord.{CpuRecord}
 use Rattle.order.specs.Outcome.{Outcome, refuse, accept, answerOf, cellsAfter, appliedTo, accepted}
-use Rattle.machine.specs.State.{isThread, isPriority, tagBits, threadWord, isCurrent, idleRun, noCpu}
+use Rattle.machine.specs.State.{cpuSlots, isThread, isPriority, tagBits, threadWord, isCurrent, idleRun, noCpu}
 use Rattle.machine.specs.declared.Current.{Current}
 use Rattle.machine.specs.declared.Place.{Place}
 use Rattle.machine.specs.declared.Setup.{Setup}
@@ -218,22 +218,22 @@ carriable (ThreadOperation.Priority a) = isPriority a
 abbrev pub cpuRecord : Run → CpuRecord
 cpuRecord run = record { active = run .active; priority = run .priority }
 
--- The records of four run cells, and of nobody past them.
-abbrev pub recordsOf : Run → Run → Run → Run → List CpuRecord
-recordsOf r0 r1 r2 r3 = cpuRecord r0 ∷ cpuRecord r1 ∷ cpuRecord r2 ∷ cpuRecord r3 ∷ replicate 12 Ipi·noCpu
+-- The records of these run cells, and of nobody past them.
+abbrev pub recordsOf : List Run → List CpuRecord
+recordsOf runs = map cpuRecord runs ++ replicate (maxIpiCpus - cpuSlots) Ipi·noCpu
 
--- The records of these CPUs.
-abbrev pub cpuRecords : List Cpu → List CpuRecord
-cpuRecords cpus = recordsOf (getD cpus 0 noCpu .run) (getD cpus 1 noCpu .run) (getD cpus 2 noCpu .run) (getD cpus 3 noCpu .run)
+-- The run cells of the first k of these CPUs.
+abbrev pub runsOf : ℕ → List Cpu → List Run
+runsOf zero cpus = []
+runsOf (suc k) cpus = runsOf k cpus ++ (getD cpus k noCpu .run ∷ [])
 
 -- 10 ipi: cpu as current, n CPUs, the thread's priority and mask. The value is the IPI mask.
-unfoldable pub ipi : Setup → ℕ → Run → Run → Run → Run → Thread → Answer ℕ
-ipi s c r0 r1 r2 r3 thread = computeIpiMask c (thread .priority) (thread .mask) (recordsOf r0 r1 r2 r3) (s .n) maxIpiCpus
+unfoldable pub ipi : Setup → ℕ → List Run → Thread → Answer ℕ
+ipi s c runs thread = computeIpiMask c (thread .priority) (thread .mask) (recordsOf runs) (s .n) maxIpiCpus
 
 -- That rule on the run cells of these CPUs.
 abbrev pub ipiOf : Setup → ℕ → List Cpu → Thread → Answer ℕ
-ipiOf s c cpus thread =
-    ipi s c (getD cpus 0 noCpu .run) (getD cpus 1 noCpu .run) (getD cpus 2 noCpu .run) (getD cpus 3 noCpu .run) thread
+ipiOf s c cpus thread = ipi s c (runsOf cpuSlots cpus) thread
 
 -- 11 owner: the value is the owner word, in 32 bits.
 unfoldable pub owner : Lock → Answer ℕ

@@ -253,16 +253,21 @@ fewer-do-not n k tid h l =
 
 -- ---- a held lock and a plain acquire
 
--- Upstream's lemma_double_acquire_rejected: a plain acquire of a held lock is refused to every thread, its owner too.
-pub plain-acquire-of-held : (s : SpinlockState) (tid : ℕ) → validRecord s ≡ true → held (s .owner) ≡ true → acquire s tid ≡ answer EBUSY s
+-- A plain acquire of a held lock is refused to every thread, its owner too, wherever it is.
+pub acquire-of-held : (s : SpinlockState) (tid : ℕ) (elsewhere : Bool) → validRecord s ≡ true → held (s .owner) ≡ true
+    → operate Acquire s tid elsewhere ≡ answer EBUSY s
 unfolding codeOf after
-plain-acquire-of-held s tid valid taken = operated Acquire s tid false valid refl ∙ by (view s tid false valid)
+acquire-of-held s tid elsewhere valid taken = operated Acquire s tid elsewhere valid refl ∙ by (view s tid elsewhere valid)
   where
     by : {sit : Situation} → View s tid sit → answer (codeOf Acquire sit) (after Acquire sit s tid) ≡ answer EBUSY s
     by (free e) = absurd (false≢true (sym (ap (λ (r : SpinlockState). held (r .owner)) e) ∙ taken))
     by (own _ _) = refl
     by (full _ _) = refl
     by (foreign _ _) = refl
+
+-- Upstream's lemma_double_acquire_rejected, of the single call.
+pub plain-acquire-of-held : (s : SpinlockState) (tid : ℕ) → validRecord s ≡ true → held (s .owner) ≡ true → acquire s tid ≡ answer EBUSY s
+plain-acquire-of-held s tid = acquire-of-held s tid false
 
 -- ---- a thread elsewhere
 

@@ -8,7 +8,7 @@ ghost use mathlib.Core.Bool.{_&&_, cond};
 ghost use Rattle.error.specs.Codes.{EINVAL};
 ghost use Rattle.error.specs.Answer.{answer};
 ghost use Rattle.cpu_mask.specs.Mask.{maskSays};
-ghost use Rattle.machine.specs.State.{hasCpu};
+ghost use Rattle.machine.specs.State.{cpuSlots, hasCpu};
 ghost use Rattle.order.specs.Outcome.{appliedTo};
 ghost use Rattle.rules.specs.Rules.{
   threadSays,
@@ -22,7 +22,8 @@ ghost use Rattle.rules.specs.Rules.{
   ranged,
   carriable as Rules·carriable,
   onThread,
-  cpuRecords,
+  recordsOf,
+  runsOf,
   ipiOf,
 };
 use cpu_mask::CpuMaskResult;
@@ -163,7 +164,7 @@ fn cpu_record(cpu: Cpu) -> CpuRecord
 
 // The CPU records of a machine's slots, and of nobody past them.
 fn cpu_records(cpus: [Cpu; CPU_SLOTS]) -> [CpuRecord; 16]
-    ensures { λ r. ⌜ r ≡ cpuRecords cpus ⌝ }
+    ensures { λ r. ⌜ r ≡ recordsOf (runsOf cpuSlots cpus) ⌝ }
 {
     let nobody = CpuRecord {
         active: false,

@@ -2,8 +2,8 @@
 use mathlib.Core.Path.{_≡_, refl, ap, sym, _∙_}
 use Prim.Native.Nat.{ℕ, zero, suc, _<_}
 use native.Mathlib.Omega.{arith}
-use Rattle.rearranged.specs.Rearranged.{Reordered}
-use Rattle.rearranged.proofs.Positions.{skip, skip-order, rest, skip-rest, rest-permutes, onto}
+use Rattle.order.specs.Reordered.{Reordered}
+use Rattle.order.proofs.Positions.{skip, skip-order, rest, skip-rest, rest-permutes, onto}
 
 module _ {M R A : Type 0} (next : M → R → M) (ans : M → R → A) where
   -- The machine after the first k requests, and the answer to request k.

@@ -3,36 +3,11 @@
 use mathlib.Core.Path.{_≡_, refl, ap, sym, _∙_}
 use mathlib.Core.Logic.{_≢_}
 use mathlib.Core.List.{List, [], _∷_, _++_}
 use Rattle.order.specs.Outcome.{Outcome, refuse, accept, answerOf}
 use Rattle.order.specs.Cells.{Store, Op, Vals, Fn, feed, store, result, commit, after, reply}
-use Rattle.rearranged.specs.Clash.{In, here, there}
-use Rattle.rearranged.proofs.Sequence.{Swap}
-
--- What is in a list of cells.
-module _ {C : Type 0} where
-  not-nil : {c : C} → In c [] → ⊥
-  not-nil h = elim h [ ]
-
-  not-cons : {c d : C} {cs : List C} → c ≢ d → ¬ (In c cs) → ¬ (In c (d ∷ cs))
-  not-cons other h (here e) = other e
-  not-cons other h (there i) = h i
-
-  tail : {c d : C} {cs : List C} → In c (d ∷ cs) → c ≢ d → In c cs
-  tail (here e) other = absurd (other e)
-  tail (there i) other = i
-
-  in? : Discrete C → (c : C) (cs : List C) → Dec (In c cs)
-  in? eq c [] = no not-nil
-  in? eq c (d ∷ cs) = go (eq c d) (in? eq c cs)
-    where
-      go : Dec (c ≡ d) → Dec (In c cs) → Dec (In c (d ∷ cs))
-      go (yes e) q = yes (here e)
-      go (no n) (yes h) = yes (there h)
-      go (no n) (no h) = no (not-cons n h)
-
-  in-right : {c : C} (xs : List C) {ys : List C} → In c ys → In c (xs ++ ys)
-  in-right [] h = h
-  in-right (x ∷ xs) h = there (in-right xs h)
+use Rattle.order.specs.Clash.{In, here, there, Clash, writes-first, writes-second, cellsOf}
+use Rattle.order.proofs.Within.{not-nil, tail, in?, in-right}
+use Rattle.order.proofs.Sequence.{Swap}
 
 -- What never changes, and what one cell's new value does to the others and to itself.
 pub record Laws (𝒮 : Store) (Shape : Type 0) (shape : 𝒮 .M → Shape) : Type 0 where
@@ -127,3 +102,7 @@ module _ (𝒮 : Store) (A Shape : Type 0) (shape : 𝒮 .M → Shape) (ℒ : La
       cells c (no i) (yes j) = sym (written b a m unseen-a c j)
       cells c (no i) (no j) =
           after-other c b (after 𝒮 A m a) j ∙ after-other c a m i ∙ sym (after-other c a (after 𝒮 A m b) i ∙ after-other c b m j)
+
+  -- Two operations that do not clash may be swapped.
+  pub clash-free : (m : M) (a b : Op 𝒮 A) → ¬ (Clash (cellsOf b) (cellsOf a)) → Swap (after 𝒮 A) (reply 𝒮 A) m a b
+  clash-free m a b free = swap m a b (λ c i j. free (writes-first c i j)) (λ c i j. free (writes-second c j i))

@@ -5,7 +5,7 @@ use Prim.Native.Nat.{ℕ, zero, suc, _<_}
 use native.Mathlib.Omega.{arith}
 use native.Mathlib.Nat.{suc-inj}
 use native.Mathlib.Decide.{ℕ-discrete}
-use Rattle.rearranged.specs.Rearranged.{Permutes}
+use Rattle.order.specs.Reordered.{Permutes}
 
 -- The i-th position other than p, and back.
 abbrev pub skip : ℕ → ℕ → ℕ

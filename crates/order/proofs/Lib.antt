@@ -1,0 +1,5 @@
+pub mod Within
+pub mod Positions
+pub mod Sequence
+pub mod Commute
+pub mod Every
