@@ -35,12 +35,14 @@ use Rattle.operations.specs.Asked.{answered, next}
 use Rattle.element_tests.specs.Elements.{names, depthFor}
 use Rattle.wellformed.specs.WellFormed.{sumBelow, wellFormed}
 use Rattle.wellformed.proofs.Facts.{WellFormed, says}
-use Rattle.kept.proofs.Apart.{none-or-thread, nowhere-or-on}
+use Rattle.kept.proofs.Apart.{nowhere-or-on}
 use Rattle.kept.proofs.Lengths.{Lengths}
 use Rattle.kept.proofs.Stored.{cpu-there, thread-there}
 use Rattle.kept.proofs.Accepted.{Accepting, Puts, put-accepted, Takes, take-accepted}
+use Rattle.kept.proofs.Kept.{idle-unlocked}
 use Rattle.kept.proofs.Seats.{reseated}
 use Rattle.kept.proofs.Seated.{take-kept}
+use Rattle.kept.proofs.Locked.{owner-carried}
 use Rattle.kept.proofs.Tagged.{cpu-fits}
 use Rattle.kept.proofs.Ranges.{asks-in-range}
 use Rattle.job.specs.Job.{OwnsNothing, HoldsNothing, Accepted}
@@ -61,17 +63,14 @@ sum-of-zeros f (suc k) zeros =
 module _ (m : Machine) (w : WellFormed m) where
   -- The owner of a lock has a place.
   owner-placed : (l : ℕ) → l < lockCount → (t : ℕ) → lockAt m l .state .owner ≡ Owner.Thread t → threadAt m t .place ≢ Place.Nowhere
-  owner-placed l h t e nowhere =
-      let was = w .held l h t e in
-      let below = was .below in
-      nowhere-or-on (sym nowhere ∙ w .current _ (omega (arith, w .few)) (record { 0 = t }) (was .current) .place)
+  owner-placed l h t e nowhere = nowhere-or-on (sym nowhere ∙ owner-carried m w l h t e .place)
 
   -- The thread word in a lock's word is its owner's.
   owner-word : (l : ℕ) → l < lockCount → (t : ℕ) → lockAt m l .state .owner ≡ Owner.Thread t
       → threadOf (tagBits (m .setup)) (lockAt m l .word) ≡ threadWord (m .setup) t
   owner-word l h t e =
       let k = tagBits (m .setup) in
-      let was = w .held l h t e in
+      let was = w .locks l h .held t e in
       ap (threadOf k) (was .word) ∙ word-thread k (cpuOf k (lockAt m l .word)) t (cpu-fits m w _ (was .below))
 
   -- A thread that has no place owns no lock.
@@ -80,7 +79,7 @@ module _ (m : Machine) (w : WellFormed m) where
       record {
         owner = λ l h e. owner-placed l h t e nowhere;
         word = λ l h e. owner-cases ⊥ (lockAt m l .state .owner)
-            (λ none. thread-nonzero (tagBits (m .setup)) _ (sym e ∙ rw (w .free l h none .word) (omega arith)))
+            (λ none. thread-nonzero (tagBits (m .setup)) _ (sym e ∙ rw (w .locks l h .free none .word) (omega arith)))
             (λ u some.
             let same : u ≡ t = thread-alone (tagBits (m .setup)) u t (sym (owner-word l h u some) ∙ e) in
             owner-placed l h u some (rw same nowhere));
@@ -90,10 +89,9 @@ module _ (m : Machine) (w : WellFormed m) where
   no-thread : (c : ℕ) → cpuAt m c .run .current ≡ Current.None → (l : ℕ) → l < lockCount → names (m .setup) (lockAt m l .word) c ≡ false
   no-thread c idle l h =
       owner-cases (names (m .setup) (lockAt m l .word) c ≡ false) (lockAt m l .state .owner)
-      (λ none. rw (w .free l h none .word))
+      (λ none. rw (w .locks l h .free none .word))
       (λ t some.
-      let other : cpuOf (tagBits (m .setup)) (lockAt m l .word) ≢ c = λ e.
-      none-or-thread (sym idle ∙ ap (λ x. cpuAt m x .run .current) (sym e) ∙ w .held l h t some .current) in
+      let other = idle-unlocked (w .locks) c idle l h t some in
       and-false (not (eqb (lockAt m l .word) 0)) (eqb (cpuOf (tagBits (m .setup)) (lockAt m l .word)) c) (ne-eqb _ _ other))
     where
       and-false : (a b : Bool) → b ≡ false → a && b ≡ false
@@ -104,7 +102,7 @@ module _ (m : Machine) (w : WellFormed m) where
   no-current c h idle =
       record {
         word = no-thread c idle;
-        hold = w .hold c h ∙ sum-of-zeros (λ l. depthFor (m .setup) (lockAt m l) c) lockCount (λ l b. rw (no-thread c idle l b));
+        hold = w .counts c h .is ∙ sum-of-zeros (λ l. depthFor (m .setup) (lockAt m l) c) lockCount (λ l b. rw (no-thread c idle l b));
       }
 
 -- A refusal never has the code OK.
@@ -140,7 +138,7 @@ Nothing c t m = OwnsNothing m t × HoldsNothing m c
 
 module _ (m : Machine) (s : Lengths m) (w : WellFormed m) (c t : ℕ) (hc : c < m .setup .n) (ht : t < threadCount) where
   inside : c < cpuSlots
-  inside = let few = w .few in omega arith
+  inside = let few = w .size .few in omega arith
 
   taken-off : (v : Run × Thread) → Takes t (cpuAt m c .hold) (cpuAt m c .run) (threadAt m t) v → Nothing c t (reseated m c t (v .0) (v .1))
   taken-off v e =

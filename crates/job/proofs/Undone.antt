@@ -72,7 +72,7 @@ module _ (m : Machine) (w : WellFormed m) (c l t : ℕ) (hc : c < m .setup .n) (
 
   -- A current thread is one of the machine's.
   is-thread : isThread t ≡ true
-  is-thread = lt-ltb t threadCount (w .current c (omega (arith, w .few)) (record { 0 = t }) runs .below)
+  is-thread = lt-ltb t threadCount (w .seats .cpus c (omega (arith, w .size .few)) .current (record { 0 = t }) runs .below)
 
   -- A lock with that word, whose record a release takes back to the machine's, is undone.
   released : (v : Lock) → v .word ≡ ours → operate LockOperation.Release (v .state) t false ≡ answer OK (lockAt m l .state)
@@ -93,7 +93,7 @@ module _ (m : Machine) (w : WellFormed m) (c l t : ℕ) (hc : c < m .setup .n) (
   taken e =
       let none : lockAt m l .state .owner ≡ Owner.None = ap (λ (x : SpinlockState). x .owner) e in
       let made : wordAfter (m .setup) c t (lockAt m l) (takenBy t) ≡ ours = rw none (same-value ours-made) in
-      released _ made (acquire-then-release t .1 ∙ ap (answer OK) (sym e)) (rw none (sym (w .free l hl none .word)))
+      released _ made (acquire-then-release t .1 ∙ ap (answer OK) (sym e)) (rw none (sym (w .locks l hl .free none .word)))
 
   nested-up : HeldBy (lockAt m l .state) t → operate LockOperation.Release (deeper (lockAt m l .state)) t false ≡ answer OK (lockAt m l .state)
       → Undone m c l (leaves (m .setup) c t (lockAt m l) (deeper (lockAt m l .state)))
@@ -101,7 +101,7 @@ module _ (m : Machine) (w : WellFormed m) (c l t : ℕ) (hc : c < m .setup .n) (
       let owner = mine .owner in
       let same : wordAfter (m .setup) c t (lockAt m l) (deeper (lockAt m l .state)) ≡ lockAt m l .word = rw owner in
       let made : lockAt m l .word ≡ ours =
-      w .held l hl t owner .word ∙ ap (λ x. wordOf x (threadWord (m .setup) t)) (named m w c l t hc hl runs owner) in
+      w .locks l hl .held t owner .word ∙ ap (λ x. wordOf x (threadWord (m .setup) t)) (named m w c l t hc hl runs owner) in
       released _ (same ∙ made) rule (rw owner)
 
   -- A release undoes the level that a nested acquire went up.
@@ -177,7 +177,7 @@ module _ (m : Machine) (s : Lengths m) (c l : ℕ) (hc : c < cpuSlots) (hl : l <
 
 module _ (m : Machine) (s : Lengths m) (w : WellFormed m) (c : CpuId) (l : LockId) (hc : c .0 < m .setup .n) (hl : l .0 < lockCount) where
   inside : c .0 < cpuSlots
-  inside = let few = w .few in omega arith
+  inside = let few = w .size .few in omega arith
 
   one-less : moved LockOperation.Nested (cpuAt m (c .0) .hold) - 1 ≡ cpuAt m (c .0) .hold
   one-less = rw (lt-ltb (cpuAt m (c .0) .hold) 0xffff_ffff (hold-most m w (c .0) inside)) (omega arith)

@@ -11,12 +11,14 @@ use Rattle.words.proofs.Tags.{word-nonzero}
 use Rattle.spinlock.specs.Lock.{maxNestDepth}
 use Rattle.spinlock.specs.declared.Owner.{Owner}
 use Rattle.machine.specs.State.{cpuSlots, lockCount, tagBits, cpuAt, lockAt}
+use Rattle.machine.specs.declared.Current.{Current}
 use Rattle.machine.specs.declared.Lock.{Lock}
 use Rattle.machine.specs.declared.Setup.{Setup}
 use Rattle.machine.specs.declared.Machine.{Machine}
 use Rattle.element_tests.specs.Elements.{names, depthFor}
 use Rattle.wellformed.specs.WellFormed.{holdSum}
 use Rattle.wellformed.proofs.Facts.{HeldLock, WellFormed}
+use Rattle.kept.proofs.Kept.{Unlocked}
 use Rattle.kept.proofs.Sums.{sum-term, sum-most}
 
 -- The CPU that its word names: its depth.
@@ -34,8 +36,8 @@ depth-other s k c other =
     (λ _. rw (ne-eqb (cpuOf (tagBits s) (k .word)) c other))
 
 -- A held lock has a word.
-pub held-word : (m : Machine) (k : Lock) (t : ℕ) → HeldLock m k t → k .word ≡ 0 → ⊥
-held-word m k t h e = word-nonzero (tagBits (m .setup)) (cpuOf (tagBits (m .setup)) (k .word)) t (sym (h .word) ∙ e)
+pub held-word : (s : Setup) {o : Current} (k : Lock) (t : ℕ) → HeldLock s o k t → k .word ≡ 0 → ⊥
+held-word s k t h e = word-nonzero (tagBits s) (cpuOf (tagBits s) (k .word)) t (sym (h .word) ∙ e)
 
 -- No lock adds more than 255.
 pub depth-most : (m : Machine) → WellFormed m → (l c : ℕ) → l < lockCount → depthFor (m .setup) (lockAt m l) c ≤ maxNestDepth
@@ -44,19 +46,18 @@ depth-most m w l c h =
     (λ _. go (lockAt m l .state .owner) refl) (λ _. omega arith)
   where
     go : (o : Owner) → lockAt m l .state .owner ≡ o → lockAt m l .state .«nest_count» ≤ maxNestDepth
-    go Owner.None e = omega (arith, w .free l h e .depth)
-    go (Owner.Thread t) e = w .held l h t e .most
+    go Owner.None e = omega (arith, w .locks l h .free e .depth)
+    go (Owner.Thread t) e = w .locks l h .held t e .most
 
 -- So a hold is far below 2 ^ 32.
 pub hold-most : (m : Machine) → WellFormed m → (c : ℕ) → c < cpuSlots → cpuAt m c .hold < 0xffff_ffff
 hold-most m w c h =
-    omega (arith, w .hold c h, sum-most (λ l. depthFor (m .setup) (lockAt m l) c) lockCount maxNestDepth (λ l k. depth-most m w l c k))
+    omega (arith, w .counts c h .is, sum-most (λ l. depthFor (m .setup) (lockAt m l) c) lockCount maxNestDepth (λ l k. depth-most m w l c k))
 
 -- A CPU with hold 0 is named by no held lock.
-pub unheld : (m : Machine) → WellFormed m → (c : ℕ) → c < cpuSlots → cpuAt m c .hold ≡ 0 → (l : ℕ) → l < lockCount → (t : ℕ)
-    → lockAt m l .state .owner ≡ Owner.Thread t → cpuOf (tagBits (m .setup)) (lockAt m l .word) ≡ c → ⊥
+pub unheld : (m : Machine) → WellFormed m → (c : ℕ) → c < cpuSlots → cpuAt m c .hold ≡ 0 → Unlocked (m .setup) (lockAt m) c
 unheld m w c h none l k t owned named =
-    let held = w .held l k t owned in
-    let depth = depth-named (m .setup) (lockAt m l) c (held-word m (lockAt m l) t held) named in
+    let held = w .locks l k .held t owned in
+    let depth = depth-named (m .setup) (lockAt m l) c (held-word (m .setup) (lockAt m l) t held) named in
     let term : depthFor (m .setup) (lockAt m l) c ≤ holdSum m c = sum-term (λ i. depthFor (m .setup) (lockAt m i) c) lockCount l k in
-    omega (arith, w .hold c h, held .some)
+    omega (arith, w .counts c h .is, held .some)

@@ -10,7 +10,7 @@ use lib.Signed.{_≤ℤ_}
 use Rattle.error.specs.Answer.{Answer}
 use Rattle.spinlock.specs.declared.Operation.{Operation as LockOperation}
 use Rattle.order.specs.Outcome.{Outcome, refuse, accept}
-use Rattle.order.specs.Cells.{Op, commit, result, after}
+use Rattle.order.specs.Cells.{Op, result, commit, after}
 use Rattle.machine.specs.State.{threadCount, lockCount, cpuAt, threadAt, lockAt}
 use Rattle.machine.specs.declared.Run.{Run}
 use Rattle.machine.specs.declared.Thread.{Thread}
@@ -80,20 +80,22 @@ module _ (m : Machine) (w : WellFormed m) where
 
 module _ (m : Machine) (s : Lengths m) (w : WellFormed m) where
   up-kept : (c : ℕ) → c < m .setup .n → (v : Run) → Ups (cpuAt m c .run) v → WellFormed (put (run c) v m)
-  up-kept c h v u = rw (u .is) (idled-kept m s w c h (down-is-idle m w c (omega (arith, w .few)) (u .down)) true)
+  up-kept c h v u = rw (u .is) (idled-kept m s w c h (down-is-idle m w c (omega (arith, w .size .few)) (u .down)) true)
 
   down-kept : (c : ℕ) → c < m .setup .n → (v : Run) → Downs (cpuAt m c .run) v → WellFormed (put (run c) v m)
   down-kept c h v u = rw (u .is) (idled-kept m s w c h (u .idle) false)
 
   mask-kept : (t : ℕ) → t < threadCount → (v : Thread) → Masks (m .setup .«pin_only») (threadAt m t) v → WellFormed (setThread m t v)
   mask-kept t h v k =
+      let fit = w .seats .threads t h .fit in
       thread-kept m s w t h v (k .nowhere) (k .place ∙ k .nowhere)
-      (record { least = rw (k .priority) (w .least t h); greatest = rw (k .priority) (w .greatest t h); mask = k .one })
+      (record { least = rw (k .priority) (fit .least); greatest = rw (k .priority) (fit .greatest); mask = k .one })
 
   priority-kept : (t : ℕ) → t < threadCount → (a : ℤ) → (negℤ (pos 128) ≤ℤ a) × (a ≤ℤ pos 127) → (v : Thread)
       → Priorities a (threadAt m t) v → WellFormed (setThread m t v)
   priority-kept t h a fits v k =
-      rw (k .is) (thread-kept m s w t h _ (k .nowhere) (k .nowhere) (record { least = fits .0; greatest = fits .1; mask = w .mask t h }))
+      let mask = w .seats .threads t h .fit .mask in
+      rw (k .is) (thread-kept m s w t h _ (k .nowhere) (k .nowhere) (record { least = fits .0; greatest = fits .1; mask = mask }))
 
   -- The machine after an operation.
   abbrev afterwards : Op machineStore (Answer ℕ) → Machine

@@ -1,6 +1,7 @@
 pub mod Apart
 pub mod Lengths
 pub mod Stored
+pub mod Kept
 pub mod Accepted
 pub mod Running
 pub mod Threads

@@ -12,4 +12,4 @@ use Rattle.wellformed.proofs.Facts.{WellFormed}
 -- What bytes ask of a well-formed machine is in range.
 pub asks-in-range : (m : Machine) → WellFormed m → (bytes : List ℕ) → Ranged (m .setup) (requestOf (m .setup) bytes)
 asks-in-range m w bytes =
-    request-ranged (m .setup) (both (le-leb 1 (m .setup .n) (w .some)) (le-leb (m .setup .n) cpuSlots (w .few))) bytes
+    request-ranged (m .setup) (both (le-leb 1 (m .setup .n) (w .size .some)) (le-leb (m .setup .n) cpuSlots (w .size .few))) bytes

@@ -1,5 +1,5 @@
 -- A put and a take that their rules accept leave the machine well-formed. Assumes nothing.
-use mathlib.Core.Path.{refl, sym, ap, _∙_}
+use mathlib.Core.Path.{refl, sym, _∙_}
 use Prim.Native.Nat.{ℕ, _<_}
 use native.Mathlib.Omega.{arith}
 use Rattle.machine.specs.State.{cpuSlots, threadCount, cpuAt, threadAt}
@@ -11,6 +11,7 @@ use Rattle.wellformed.proofs.Facts.{WellFormed}
 use Rattle.kept.proofs.Apart.{none-or-thread, nowhere-or-on, same-thread, same-cpu}
 use Rattle.kept.proofs.Lengths.{Lengths}
 use Rattle.kept.proofs.Accepted.{Puts, Takes}
+use Rattle.kept.proofs.Kept.{idle-unlocked}
 use Rattle.kept.proofs.Depths.{unheld}
 use Rattle.kept.proofs.Seats.{reseated, Reseats, reseated-kept}
 
@@ -19,15 +20,13 @@ module _ (m : Machine) (s : Lengths m) (w : WellFormed m) (c t : ℕ) (hc : c < 
       → Reseats m c t (seated c t (cpuAt m c .run) (threadAt m t) .0) (seated c t (cpuAt m c .run) (threadAt m t) .1)
   seats v p =
       record {
-        fits = record { least = w .least t ht; greatest = w .greatest t ht; mask = w .mask t ht };
-        carries = λ u e. (same-thread e, record { active = p .active; priority = refl; place = refl; allowed = p .allowed });
+        fits = w .seats .threads t ht .fit;
+        carries = λ u e. (same-thread e, record { below = ht; active = p .active; priority = refl; place = refl; allowed = p .allowed });
         placed = λ d e. (same-cpu e, refl);
         idle = λ e. absurd (none-or-thread (sym e));
-        nowhere-else = λ d h other u runs same.
-            nowhere-or-on (sym (p .nowhere) ∙ ap (λ (i : ℕ). threadAt m i .place) (sym same) ∙ w .current d h u runs .place);
+        nowhere-else = λ d h _ runs. nowhere-or-on (sym (p .nowhere) ∙ w .seats .cpus d h .current (record { 0 = t }) runs .place);
         nobody-else = λ u other runs. none-or-thread (sym (p .idle) ∙ runs);
-        unlocked = λ l h u owned named.
-            none-or-thread (sym (p .idle) ∙ ap (λ (i : ℕ). cpuAt m i .run .current) (sym named) ∙ w .held l h u owned .current);
+        unlocked = idle-unlocked (w .locks) c (p .idle);
       }
 
   pub put-kept : (v : Run × Thread) → Puts c t (cpuAt m c .run) (threadAt m t) v → WellFormed (reseated m c t (v .0) (v .1))
@@ -36,15 +35,14 @@ module _ (m : Machine) (s : Lengths m) (w : WellFormed m) (c t : ℕ) (hc : c < 
   unseats : (v : Run × Thread) → Takes t (cpuAt m c .hold) (cpuAt m c .run) (threadAt m t) v
       → Reseats m c t (unseated (threadAt m t) .0) (unseated (threadAt m t) .1)
   unseats v p =
-      let hc′ : c < cpuSlots = omega (arith, w .few) in
-      let mine = w .current c hc′ (record { 0 = t }) (p .runs) in
+      let hc′ : c < cpuSlots = omega (arith, w .size .few) in
+      let mine = w .seats .cpus c hc′ .current (record { 0 = t }) (p .runs) in
       record {
-        fits = record { least = w .least t ht; greatest = w .greatest t ht; mask = w .mask t ht };
+        fits = w .seats .threads t ht .fit;
         carries = λ u e. absurd (none-or-thread e);
         placed = λ d e. absurd (nowhere-or-on e);
         idle = λ _. refl;
-        nowhere-else = λ d h other u runs same.
-            other (same-cpu (sym (mine .place) ∙ ap (λ (i : ℕ). threadAt m i .place) (sym same) ∙ w .current d h u runs .place));
+        nowhere-else = λ d h other runs. other (same-cpu (sym (mine .place) ∙ w .seats .cpus d h .current (record { 0 = t }) runs .place));
         nobody-else = λ u other runs. other (same-thread (sym (p .runs) ∙ runs));
         unlocked = unheld m w c hc′ (p .none);
       }

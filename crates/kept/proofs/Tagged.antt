@@ -7,4 +7,4 @@ use Rattle.wellformed.proofs.Facts.{WellFormed}
 
 -- Each CPU of a well-formed machine fits its tag.
 pub cpu-fits : (m : Machine) → WellFormed m → (c : ℕ) → c < m .setup .n → c < 2 ^ tagBits (m .setup)
-cpu-fits m w c h = omega (arith, w .few)
+cpu-fits m w c h = omega (arith, w .size .few)

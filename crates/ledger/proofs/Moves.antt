@@ -27,7 +27,7 @@ pub record Moves (m : Machine) (op : Operation) (c l : ℕ) (v : Lock) : Type 0 
 
 module _ (m : Machine) (w : WellFormed m) (c l t : ℕ) (hc : c < m .setup .n) (hl : l < lockCount) (runs : Runs m c t) where
   more : oneMore (cpuAt m c .hold) ≡ cpuAt m c .hold + 1
-  more = let few = w .few in rw (lt-ltb (cpuAt m c .hold) 0xffff_ffff (hold-most m w c (omega arith)))
+  more = let few = w .size .few in rw (lt-ltb (cpuAt m c .hold) 0xffff_ffff (hold-most m w c (omega arith)))
 
   taken : (op : Operation) → kindOf op ≡ acquire → moved op (cpuAt m c .hold) ≡ oneMore (cpuAt m c .hold) → lockAt m l .state ≡ freeRecord
       → (word : ℕ) → Moves m op c l (record { state = takenBy t; word = word })

@@ -170,7 +170,7 @@ module _ (m : Machine) (s : Lengths m) (w : WellFormed m) where
 
   lock-books : (op : LockOperation) (c k : ℕ) → c < m .setup .n → k < lockCount → Books (onLock (m .setup) op c k) (called (kindOf op) c k)
   lock-books op c k hc hk =
-      let few = w .few in
+      let few = w .size .few in
       call-kept m s op c k (omega arith) hk (Rules.lockOp (m .setup) op c (cpuAt m c .run) (lockAt m k)) (lock-told m w c k hc hk op)
 
   books : (op : Operation) (c t l : ℕ) → c < m .setup .n → l < lockCount → Books (operationBy (m .setup) op c t l) (callBy op c l)
