@@ -2,7 +2,7 @@
 //!
 //! Left out are `verus!`, the import of its library, specification and proof functions, and the clauses of functions and loops; the name of a
 //! result is dropped from its type. Bodies stay as they are. It goes by the layout of the five files: the brace that opens a body after clauses
-//! stands on a line of its own.
+//! stands on a line of its own. A body must have no proof block and no assert; one that has is an error.
 
 use std::path::{Path, PathBuf};
 use std::{env, fs, process};
@@ -16,12 +16,12 @@ fn fail(message: String) -> ! {
     process::exit(1)
 }
 
-/// Where a file stands in a checkout, in its src/, or as it was handed over.
+/// Where a file stands: in the folder, in its src/, or in the folder under a name with its path.
 fn find(from: &Path, name: &str) -> PathBuf {
     let places = [format!("{name}.rs"), format!("src/{name}.rs"), format!("src--src--{name}.rs.txt")];
     match places.iter().map(|place| from.join(place)).find(|path| path.exists()) {
         Some(path) => path,
-        None => fail(format!("no {name}.rs in {}", from.display())),
+        None => fail(format!("{} has none of {}", from.display(), places.join(", "))),
     }
 }
 
@@ -31,6 +31,10 @@ fn starts_clause(line: &str) -> bool {
 
 fn is_ghost(line: &str) -> bool {
     ["pub open spec fn", "pub closed spec fn", "pub proof fn", "spec fn", "proof fn"].iter().any(|head| line.trim_start().starts_with(head))
+}
+
+fn is_proof(line: &str) -> bool {
+    ["proof {", "assert(", "assert forall", "assume("].iter().any(|head| line.trim_start().starts_with(head))
 }
 
 /// How far the braces of a line open, without those in a comment.
@@ -87,6 +91,8 @@ fn erased(text: &str) -> String {
             while lines[at].trim() != "{" {
                 at += 1;
             }
+        } else if is_proof(line) {
+            fail(format!("line {} is a proof in a body: {}", at + 1, line.trim()))
         } else {
             kept.push(unnamed(line));
             at += 1;

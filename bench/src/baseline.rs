@@ -2,6 +2,8 @@
 //!
 //! It shares nothing with the proved code but the document of rules. The benchmark compares both on the same bytes before it times them.
 
+use std::slice;
+
 pub const OK: i32 = 0;
 const EPERM: i32 = -1;
 const ENOMEM: i32 = -12;
@@ -342,7 +344,11 @@ impl Machine {
         if log.len() > MAX_LOG_BYTES {
             return EOVERFLOW;
         }
-        let (records, []) = log.as_chunks::<RECORD_BYTES>() else { return EINVAL };
+        if log.len() % RECORD_BYTES != 0 {
+            return EINVAL;
+        }
+        // SAFETY: the log has this many records, one behind the other, and a record is its bytes.
+        let records = unsafe { slice::from_raw_parts(log.as_ptr().cast::<[u8; RECORD_BYTES]>(), log.len() / RECORD_BYTES) };
         if out.len() < records.len() * ANSWER_BYTES {
             return ENOMEM;
         }
@@ -359,7 +365,7 @@ impl Machine {
 #[inline(never)]
 pub extern "C" fn run(setup: u8, log: *const u8, log_len: usize, out: *mut u8, out_len: usize) -> i32 {
     // SAFETY: the benchmark's one caller passes two slices of its own, with their lengths.
-    let (log, out) = unsafe { (std::slice::from_raw_parts(log, log_len), std::slice::from_raw_parts_mut(out, out_len)) };
+    let (log, out) = unsafe { (slice::from_raw_parts(log, log_len), slice::from_raw_parts_mut(out, out_len)) };
     match Machine::fresh(setup) {
         Some(mut machine) => machine.run(log, out),
         None => EINVAL,

@@ -1,5 +1,6 @@
 //! Times each exported call against upstream's body, its Verus text erased, behind a call of the same kind: `extern "C"`, not inlined, its value
-//! written into lent room high byte first. Upstream's side makes no tests; ours also tests its input.
+//! written into lent room high byte first. Both sides test the length of the room. Upstream's side tests nothing else but what upstream's body
+//! tests; ours tests its whole input.
 
 #[path = "../../compare/src/hubcrackle.rs"]
 mod hubcrackle;

@@ -2,6 +2,7 @@
 
 use upstream::ipi as theirs;
 
+use crate::differences::Difference;
 use crate::ours::{Call, Judge};
 use crate::random::Random;
 
@@ -43,19 +44,19 @@ fn ipi_mask(judge: &mut Judge, random: &mut Random, current: u32, num_cpus: u32,
     let call = Call::Ipi { current, prio, mask, cpus: &made.bytes, num_cpus, max_cpus };
     // Upstream's `requires`.
     if max_cpus > theirs::MAX_CPUS || num_cpus > max_cpus || current >= num_cpus {
-        return judge.refuses(call);
+        return judge.excludes(call, Difference::IpiNumbers);
     }
     let value = theirs::compute_ipi_mask(current, prio, mask, &made.prios, &made.active, num_cpus, max_cpus);
     judge.gives(call, &value.to_be_bytes());
     // Bytes that are no CPUs: one too few, one too many, a flag that is no flag.
     let short = &made.bytes[1..];
-    judge.refuses(Call::Ipi { current, prio, mask, cpus: short, num_cpus, max_cpus });
+    judge.bars(Call::Ipi { current, prio, mask, cpus: short, num_cpus, max_cpus }, Difference::CpuLength);
     let mut bytes = made.bytes.clone();
     bytes.push(0);
-    judge.refuses(Call::Ipi { current, prio, mask, cpus: &bytes, num_cpus, max_cpus });
+    judge.bars(Call::Ipi { current, prio, mask, cpus: &bytes, num_cpus, max_cpus }, Difference::CpuLength);
     bytes.pop();
     bytes[random.below(num_cpus.into()) as usize * BYTES_A_CPU] = 2 + random.below(254) as u8;
-    judge.refuses(Call::Ipi { current, prio, mask, cpus: &bytes, num_cpus, max_cpus });
+    judge.bars(Call::Ipi { current, prio, mask, cpus: &bytes, num_cpus, max_cpus }, Difference::ActiveFlag);
 }
 
 fn mask_test(judge: &mut Judge, mask: u32, current: u32, max_cpus: u32) {
@@ -63,7 +64,7 @@ fn mask_test(judge: &mut Judge, mask: u32, current: u32, max_cpus: u32) {
     if current < max_cpus && max_cpus <= theirs::MAX_CPUS {
         judge.gives(call, &[theirs::validate_ipi_mask(mask, current, max_cpus).into()]);
     } else {
-        judge.refuses(call);
+        judge.excludes(call, Difference::IpiTest);
     }
 }
 
@@ -79,7 +80,7 @@ pub fn compare(judge: &mut Judge, random: &mut Random) {
     }
     // So many CPUs that five bytes for each overflow.
     for num_cpus in [u32::MAX, u32::MAX / 5 + 1, 1 << 31] {
-        judge.refuses(Call::Ipi { current: 0, prio: 0, mask: 1, cpus: &[], num_cpus, max_cpus: 16 });
+        judge.excludes(Call::Ipi { current: 0, prio: 0, mask: 1, cpus: &[], num_cpus, max_cpus: 16 }, Difference::IpiNumbers);
     }
     for max_cpus in 0..=17 {
         for current in 0..=17 {

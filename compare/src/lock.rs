@@ -1,9 +1,14 @@
 //! The lock record, through the runner: the lock of a record is upstream's, as long as every thread stays on its CPU.
+//!
+//! After each call on a lock the log asks for the lock's owner word, so that code, depth and owner are compared. The irq flag is in no answer: on a
+//! well-formed machine, as every step keeps it, it is set exactly while the lock is held. Upstream's flag is held to that.
 
 use upstream::spinlock::{MAX_NEST_DEPTH, SpinlockState};
+use upstream::spinlock_validate::spin_lock_compute_owner;
 
 use crate::ours::{self, OK};
 use crate::random::Random;
+use crate::tally::{Kind, Tally};
 
 const SETUP: u8 = 0x40;
 const CPUS: u64 = 4;
@@ -15,33 +20,67 @@ const ANSWER_BYTES: usize = 8;
 
 /// Up, and thread 7 c + 1 put on CPU c.
 const OPENING: usize = 2 * CPUS as usize;
+const APART: u32 = 7;
 
-fn thread_of(cpu: u8) -> u8 {
-    7 * cpu + 1
+fn thread_of(cpu: u8) -> u32 {
+    APART * u32::from(cpu) + 1
 }
 
-fn record(log: &mut Vec<u8>, op: u8, cpu: u8, thread: u8, lock: u8) {
-    let mut bytes = [0; RECORD_BYTES];
-    bytes[..3].copy_from_slice(&[op << 4 | cpu, thread, lock]);
-    log.extend(bytes);
+/// The owner word by upstream's encoding: thread t has thread word 4 (t + 1).
+fn word_of(owner: Option<u32>) -> u32 {
+    owner.map_or(0, |thread| spin_lock_compute_owner(thread / APART, 4 * (thread as usize + 1)) as u32)
+}
+
+/// A log, and the answers that upstream's bodies give it.
+struct Log {
+    records: Vec<u8>,
+    answers: Vec<u8>,
+}
+
+impl Log {
+    fn add(&mut self, op: u8, cpu: u8, thread: u32, lock: u8, code: i32, value: u32) {
+        let mut bytes = [0; RECORD_BYTES];
+        bytes[..3].copy_from_slice(&[op << 4 | cpu, thread as u8, lock]);
+        self.records.extend(bytes);
+        self.answers.extend(code.to_be_bytes());
+        self.answers.extend(value.to_be_bytes());
+    }
+
+    /// Every CPU with its thread.
+    fn opened() -> Log {
+        let mut log = Log { records: vec![], answers: vec![] };
+        for cpu in 0..CPUS as u8 {
+            log.add(0, cpu, 0, 0, OK, 0);
+            log.add(2, cpu, thread_of(cpu), 0, OK, 0);
+        }
+        log
+    }
+
+    /// Runs it, and ends the process at the first answer that differs.
+    fn hold(&self) {
+        let mut room = vec![0; RECORDS * ANSWER_BYTES];
+        assert_eq!(ours::run(SETUP, &self.records, &mut room), OK, "a log was refused");
+        let differs = room.chunks(ANSWER_BYTES).zip(self.answers.chunks(ANSWER_BYTES)).position(|(a, b)| a != b);
+        if let Some(at) = differs {
+            let bytes = at * ANSWER_BYTES..(at + 1) * ANSWER_BYTES;
+            let asked = &self.records[at * RECORD_BYTES..][..4];
+            eprintln!("record {at} ({asked:x?}): answer {:x?}; expected {:x?}", &room[bytes.clone()], &self.answers[bytes]);
+            std::process::exit(1);
+        }
+    }
 }
 
 /// One log against one record a lock; how often a nested acquire was asked for at the greatest depth.
-fn compare_log(random: &mut Random) -> u64 {
-    let mut log = Vec::with_capacity(RECORDS * RECORD_BYTES);
-    let mut expected = vec![0; OPENING * ANSWER_BYTES];
-    for cpu in 0..CPUS as u8 {
-        record(&mut log, 0, cpu, 0, 0);
-        record(&mut log, 2, cpu, thread_of(cpu), 0);
-    }
+fn compare_log(tally: &mut Tally, random: &mut Random) -> u64 {
+    let mut log = Log::opened();
     let mut states = [SpinlockState::init(); LOCKS as usize];
     // Half of the logs keep to one CPU and one lock, so that the greatest depth is reached and passed.
     let (spread, releases) = (if random.below(2) == 0 { 1 } else { 8 }, 1 + random.below(4));
     let mut full = 0;
-    for _ in OPENING..RECORDS {
+    for _ in 0..(RECORDS - OPENING) / 2 {
         let alone = random.below(spread) != 0;
         let (cpu, lock) = if alone { (1, 0) } else { (random.below(CPUS) as u8, random.below(LOCKS) as u8) };
-        let thread = thread_of(cpu).into();
+        let thread = thread_of(cpu);
         let state = &mut states[usize::from(lock)];
         let (op, code) = match random.below(8) {
             0 => (4, state.acquire(thread)),
@@ -51,25 +90,17 @@ fn compare_log(random: &mut Random) -> u64 {
                 (5, state.acquire_nested(thread))
             }
         };
-        record(&mut log, op, cpu, 0, lock);
-        expected.extend(code.to_be_bytes());
-        expected.extend(state.nest_count.to_be_bytes());
+        log.add(op, cpu, 0, lock, code, state.nest_depth());
+        log.add(11, 0, 0, lock, OK, word_of(state.owner_get()));
+        assert_eq!(state.irq_saved, state.nest_depth() > 0, "upstream's irq flag is not set exactly while the lock is held");
+        tally.count(Kind::Compared);
+        tally.count(Kind::Compared);
     }
-    let mut room = vec![0; RECORDS * ANSWER_BYTES];
-    assert_eq!(ours::run(SETUP, &log, &mut room), OK, "a log was refused");
-    let differs = room.chunks(ANSWER_BYTES).zip(expected.chunks(ANSWER_BYTES)).position(|(a, b)| a != b);
-    if let Some(at) = differs {
-        let bytes = at * ANSWER_BYTES..(at + 1) * ANSWER_BYTES;
-        let asked = &log[at * RECORD_BYTES..][..4];
-        eprintln!("record {at} ({asked:x?}): answer {:x?}; expected {:x?}", &room[bytes.clone()], &expected[bytes]);
-        std::process::exit(1);
-    }
+    log.hold();
     full
 }
 
-/// The number of lock calls that were compared.
-pub fn compare(random: &mut Random) -> u64 {
-    let full: u64 = (0..LOGS).map(|_| compare_log(random)).sum();
+pub fn compare(tally: &mut Tally, random: &mut Random) {
+    let full: u64 = (0..LOGS).map(|_| compare_log(tally, random)).sum();
     assert!(full > 0, "no log reaches the greatest depth");
-    (LOGS * (RECORDS - OPENING)) as u64
 }

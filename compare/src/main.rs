@@ -1,8 +1,7 @@
-//! Compares the exported calls with upstream's bodies, their Verus text erased, on the same inputs. It stops at the first difference.
-//!
-//! Where upstream `requires` something of its caller, ours must refuse with EINVAL: that is the one kind of difference there may be, and it is the
-//! list in docs/DIFFERENCES.md.
+//! Compares the exported calls with upstream's bodies, their Verus text erased, on the same inputs. It stops at the first difference that is not in
+//! the list of differences.rs, which docs/DIFFERENCES.md has too.
 
+mod differences;
 mod hubcrackle;
 mod interrupt;
 mod lock;
@@ -11,29 +10,43 @@ mod ours;
 mod owner;
 mod random;
 mod sample;
+mod stored;
+mod tally;
 
 use ours::Judge;
 use random::Random;
 use sample::Sample;
+use tally::Tally;
 
 const SEED: u64 = 1;
 const LEAST_CALLS: u64 = 10_000_000;
 
+/// A part of the comparison: adds its calls to the judge's.
+type Part = fn(&mut Judge, &mut Random);
+
+const EXPORTED: [(&str, Part); 3] = [("owner word", owner::compare), ("masks and pins", mask::compare), ("interrupts", interrupt::compare)];
+
+/// Prints how many calls a part has made, and gives the count so far.
+fn told(part: &str, tally: &Tally, before: u64) -> u64 {
+    println!("{part}: {} calls, no difference but those of the list", tally.calls - before);
+    tally.calls
+}
+
 fn main() {
+    differences::hold_to_document();
     let sample = std::env::args().nth(1).map(|path| Sample::new(path.into()));
     let mut random = Random::new(SEED);
     let mut judge = Judge::new(sample);
-    let mut told = 0;
-    let parts: [(&str, fn(&mut Judge, &mut Random)); 3] =
-        [("owner word", owner::compare), ("masks and pins", mask::compare), ("interrupts", interrupt::compare)];
-    for (name, compare) in parts {
+    let mut before = 0;
+    for (part, compare) in EXPORTED {
         compare(&mut judge, &mut random);
-        println!("{name}: {} calls, no difference", judge.calls - told);
-        told = judge.calls;
+        before = told(part, &judge.tally, before);
     }
-    let locks = lock::compare(&mut random);
-    println!("lock records, through the runner: {locks} calls, no difference");
-    let calls = judge.finish() + locks;
-    println!("{calls} calls in all");
-    assert!(calls >= LEAST_CALLS, "fewer calls than the comparison promises");
+    let mut tally = judge.finish();
+    lock::compare(&mut tally, &mut random);
+    before = told("lock records, through the runner", &tally, before);
+    stored::compare(&mut tally);
+    told("lock records, the stored lines of single_calls", &tally, before);
+    tally.print();
+    assert!(tally.calls >= LEAST_CALLS, "fewer calls than the comparison promises");
 }

@@ -1,8 +1,9 @@
 //! The mask rule, the pin test and the pin.
 
 use upstream::cpu_mask as theirs;
-use upstream::error::OK;
+use upstream::error::{EINVAL, OK};
 
+use crate::differences::Difference;
 use crate::ours::{Call, Judge};
 use crate::random::{Random, limits};
 
@@ -10,13 +11,14 @@ fn mask_mod(judge: &mut Judge, mask: u32, enable: u32, disable: u32, running: u3
     let call = Call::MaskMod { mask, enable, disable, running, pin_only };
     // Flags cross as 0 or 1.
     if running > 1 || pin_only > 1 {
-        return judge.refuses(call);
+        return judge.bars(call, Difference::MaskFlags);
     }
     let result = theirs::cpu_mask_mod(mask, enable, disable, running == 1, pin_only == 1);
     if result.error == OK {
         judge.gives(call, &result.mask.to_be_bytes());
     } else {
-        assert_eq!(result.error, upstream::error::EINVAL);
+        assert_eq!((result.error, result.mask), (EINVAL, mask));
+        judge.tally.meet(Difference::RefusedMask);
         judge.refuses(call);
     }
 }
@@ -25,7 +27,10 @@ fn pin(judge: &mut Judge, cpu: u32, max_cpus: u32) {
     let call = Call::Pin { cpu, max_cpus };
     match theirs::cpu_pin_compute(cpu, max_cpus) {
         Ok(mask) => judge.gives(call, &mask.to_be_bytes()),
-        Err(_) => judge.refuses(call),
+        Err(code) => {
+            assert_eq!(code, EINVAL);
+            judge.refuses(call);
+        }
     }
 }
 

@@ -2,8 +2,10 @@
 
 use std::process;
 
+use crate::differences::Difference;
 use crate::hubcrackle::*;
 use crate::sample::Sample;
+use crate::tally::{Kind, Tally};
 
 pub const OK: i32 = 0;
 pub const ENOMEM: i32 = -12;
@@ -60,16 +62,16 @@ pub fn run(setup: u8, log: &[u8], out: &mut [u8]) -> i32 {
 
 /// Holds calls to what is expected, and counts them.
 pub struct Judge {
-    pub calls: u64,
+    pub tally: Tally,
     sample: Option<Sample>,
 }
 
 impl Judge {
     pub fn new(sample: Option<Sample>) -> Judge {
-        Judge { calls: 0, sample }
+        Judge { tally: Tally::default(), sample }
     }
 
-    fn hold(&mut self, call: Call, len: usize, code: i32, value: &[u8]) {
+    fn hold(&mut self, kind: Kind, call: Call, len: usize, code: i32, value: &[u8]) {
         let mut room = [FILL; ROOM];
         let mut expected = [FILL; ROOM];
         if code == OK {
@@ -80,33 +82,67 @@ impl Judge {
             eprintln!("{call:?} with room for {len}: code {given}, room {room:x?}; expected code {code}, room {expected:x?}");
             process::exit(1);
         }
-        self.calls += 1;
+        self.tally.count(kind);
         if let Some(sample) = &mut self.sample {
             sample.add(&call, len, code, &expected);
         }
     }
 
     /// The call must give this value, and ENOMEM with room for one byte less.
-    pub fn gives(&mut self, call: Call, value: &[u8]) {
-        self.hold(call, ROOM, OK, value);
-        if self.calls % 16 == 0 {
-            self.hold(call, value.len(), OK, value);
-            self.hold(call, value.len() - 1, ENOMEM, value);
+    fn accepted(&mut self, kind: Kind, call: Call, value: &[u8]) {
+        self.hold(kind, call, ROOM, OK, value);
+        if self.tally.calls % 16 == 0 {
+            self.hold(Kind::Repeated, call, value.len(), OK, value);
+            self.hold(Kind::Repeated, call, value.len() - 1, ENOMEM, value);
+            self.tally.meet(Difference::Room);
         }
     }
 
     /// The call must be refused with EINVAL, with no room too.
-    pub fn refuses(&mut self, call: Call) {
-        self.hold(call, ROOM, EINVAL, &[]);
-        if self.calls % 16 == 0 {
-            self.hold(call, 0, EINVAL, &[]);
+    fn refused(&mut self, kind: Kind, call: Call) {
+        self.hold(kind, call, ROOM, EINVAL, &[]);
+        if self.tally.calls % 16 == 0 {
+            self.hold(Kind::Repeated, call, 0, EINVAL, &[]);
         }
     }
 
-    pub fn finish(self) -> u64 {
+    /// Upstream's body gave this value.
+    pub fn gives(&mut self, call: Call, value: &[u8]) {
+        self.accepted(Kind::Compared, call, value);
+    }
+
+    /// Upstream's body refused too.
+    pub fn refuses(&mut self, call: Call) {
+        self.refused(Kind::Compared, call);
+    }
+
+    /// Upstream's `requires` excludes the call.
+    pub fn excludes(&mut self, call: Call, difference: Difference) {
+        self.tally.meet(difference);
+        self.refused(Kind::Excluded, call);
+    }
+
+    /// Upstream's types exclude the call.
+    pub fn bars(&mut self, call: Call, difference: Difference) {
+        self.tally.meet(difference);
+        self.refused(Kind::Boundary, call);
+    }
+
+    /// A word and its decoding, none where it has none.
+    pub fn decodes(&mut self, word: u64, value: Option<[u8; 9]>) {
+        let call = Call::DecodeOwner { word };
+        self.tally.meet(Difference::DecodeOwner);
+        match value {
+            Some(value) => self.accepted(Kind::Decoded, call, &value),
+            None => self.refused(Kind::Decoded, call),
+        }
+    }
+
+    /// Writes the sample, if there is one, and hands the counts back.
+    pub fn finish(self) -> Tally {
         if let Some(sample) = self.sample {
             sample.write();
         }
-        self.calls
+        self.tally
     }
 }

@@ -2,6 +2,7 @@
 
 use upstream::spinlock_validate as theirs;
 
+use crate::differences::Difference;
 use crate::ours::{Call, Judge};
 use crate::random::{Random, limits};
 
@@ -17,7 +18,7 @@ fn thread_fits(thread: u64) -> bool {
 fn compute(judge: &mut Judge, cpu: u32, thread: u64) {
     let call = Call::ComputeOwner { cpu, thread };
     if !cpu_fits(cpu) || !thread_fits(thread) {
-        return judge.refuses(call);
+        return judge.excludes(call, Difference::ComputeOwner);
     }
     let word = theirs::spin_lock_compute_owner(cpu, thread as usize) as u64;
     judge.gives(call, &word.to_be_bytes());
@@ -25,7 +26,7 @@ fn compute(judge: &mut Judge, cpu: u32, thread: u64) {
     let mut value = [0; 9];
     value[..8].copy_from_slice(&thread.to_be_bytes());
     value[8] = cpu as u8;
-    judge.gives(Call::DecodeOwner { word }, &value);
+    judge.decodes(word, Some(value));
 }
 
 fn lock_valid(judge: &mut Judge, word: u64, cpu: u32) {
@@ -33,7 +34,7 @@ fn lock_valid(judge: &mut Judge, word: u64, cpu: u32) {
     if cpu_fits(cpu) {
         judge.gives(call, &[theirs::spin_lock_valid(word as usize, cpu).into()]);
     } else {
-        judge.refuses(call);
+        judge.excludes(call, Difference::LockValid);
     }
 }
 
@@ -42,14 +43,14 @@ fn unlock_valid(judge: &mut Judge, word: u64, cpu: u32, thread: u64) {
     if cpu_fits(cpu) && thread_fits(thread) {
         judge.gives(call, &[theirs::spin_unlock_valid(word as usize, cpu, thread as usize).into()]);
     } else {
-        judge.refuses(call);
+        judge.excludes(call, Difference::UnlockValid);
     }
 }
 
 pub fn compare(judge: &mut Judge, random: &mut Random) {
-    judge.gives(Call::DecodeOwner { word: 0 }, &[0; 9]);
+    judge.decodes(0, Some([0; 9]));
     for word in 1..4 {
-        judge.refuses(Call::DecodeOwner { word });
+        judge.decodes(word, None);
     }
     let words = limits(64);
     let cpus: Vec<u32> = (0..6).chain([1 << 16, u32::MAX]).collect();

@@ -1,0 +1,53 @@
+//! How many calls were made, of which kind, and how many met each expected difference.
+
+use crate::differences::{Difference, ROWS};
+
+/// What a call's answer was held to.
+#[derive(Clone, Copy)]
+pub enum Kind {
+    Compared,
+    Excluded,
+    Boundary,
+    Decoded,
+    Repeated,
+}
+
+/// What is printed of each kind.
+const KINDS: [&str; 5] = [
+    "upstream's body ran, and both answers were compared",
+    "refused, where upstream's `requires` excludes the call",
+    "refused by the C boundary's own tests of flags and CPU bytes",
+    "decodings, for which upstream has no body",
+    "repeats with room for the value alone, for one byte less, or for nothing",
+];
+
+#[derive(Default)]
+pub struct Tally {
+    pub calls: u64,
+    kinds: [u64; KINDS.len()],
+    met: [u64; ROWS.len()],
+}
+
+impl Tally {
+    pub fn count(&mut self, kind: Kind) {
+        self.calls += 1;
+        self.kinds[kind as usize] += 1;
+    }
+
+    pub fn meet(&mut self, difference: Difference) {
+        self.met[difference as usize] += 1;
+    }
+
+    /// Prints all of it. Every difference of the list must have been met.
+    pub fn print(&self) {
+        println!("{:>10}  calls in all", self.calls);
+        for (count, kind) in self.kinds.iter().zip(KINDS) {
+            println!("{count:>10}  {kind}");
+        }
+        println!("differences, the list of docs/DIFFERENCES.md, and how many calls met each:");
+        for (&count, [place, _, here, _]) in self.met.iter().zip(ROWS) {
+            println!("{count:>10}  {place}: {here}");
+            assert!(count > 0, "no call met this difference");
+        }
+    }
+}
