@@ -1,11 +1,9 @@
 -- 01, "What must change shape": the rules that the C kernel calls, each with its value as bytes.
 use Prim.Native.Nat.{ℕ}
-use mathlib.Core.Bool.{_&&_, cond}
 use mathlib.Core.List.{List}
-use lib.Dec.{eqb, leb}
 use lib.IntN.{ℤ}
 use lib.ListN.{replicate}
-use Rattle.error.specs.Codes.{OK, EINVAL}
+use Rattle.error.specs.Codes.{OK}
 use Rattle.error.specs.Answer.{Answer, answer}
 use Rattle.spinlock_validate.specs.Owner.{
   Holder,
@@ -17,7 +15,8 @@ use Rattle.spinlock_validate.specs.Owner.{
   spinLockValid,
   spinUnlockValid,
 }
-use Rattle.cpu_mask.specs.Mask.{validatePinMask, cpuMaskMod, cpuPinCompute}
+use Rattle.cpu_mask.specs.Mask.{validatePinMask, cpuPinCompute}
+use Rattle.mask_flags.specs.Flags.{maskOfFlags}
 use Rattle.ipi.specs.Ipi.{validateIpiMask}
 use Rattle.lent_room.specs.Room.{wordBytes, maskBytes, yesNoBytes, holderBytes, asBytes}
 use Rattle.cpu_bytes.specs.Cpus.{ipiMaskOfBytes}
@@ -42,12 +41,6 @@ lockValid word cpu = asBytes yesNoBytes (spinLockValid tagBits word cpu)
 -- spin_unlock_valid: yes or no.
 abbrev pub unlockValid : ℕ → ℕ → ℕ → Answer (List ℕ)
 unlockValid word cpu thread = asBytes yesNoBytes (spinUnlockValid tagBits word cpu thread)
-
--- The mask rule with its flags as numbers: 0 is no, 1 is yes, any other EINVAL.
-unfoldable pub maskOfFlags : ℕ → ℕ → ℕ → ℕ → ℕ → Answer ℕ
-maskOfFlags current enable disable running pinOnly =
-    cond (leb running 1 && leb pinOnly 1) (cpuMaskMod current enable disable (eqb running 1) (eqb pinOnly 1))
-    (answer EINVAL current)
 
 -- The new mask: 4 bytes.
 abbrev pub maskMod : ℕ → ℕ → ℕ → ℕ → ℕ → Answer (List ℕ)

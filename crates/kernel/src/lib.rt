@@ -5,14 +5,12 @@
 // refusal changes no lent byte, and bytes past the value stay.
 ghost use mathlib.Core.Path.{_≡_};
 ghost use lib.ListN.{length};
-ghost use Rattle.cpu_mask.specs.Mask.{maskSays};
 ghost use Rattle.lent_room.specs.Room.{callCode, callRoom};
 ghost use Rattle.kernel.specs.Calls.{
   computeOwner,
   decodeOwner,
   lockValid,
   unlockValid,
-  maskOfFlags,
   maskMod,
   pinTest,
   pin,
@@ -22,7 +20,6 @@ ghost use Rattle.kernel.specs.Calls.{
 
 mod run;
 
-use cpu_mask::CpuMaskResult;
 use cpu_mask::PinMask;
 use error::Code;
 pub use run::hubcrackle_run;
@@ -87,31 +84,6 @@ pub extern "C" fn hubcrackle_spin_unlock_valid(
     lent_room::put_yes_no(out, code, unlock.yes)
 }
 
-// The mask rule with its flags as numbers. A flag other than 0 and 1 is refused.
-fn mask_of_flags(
-    current_mask: u32,
-    enable: u32,
-    disable: u32,
-    is_running: u32,
-    pin_only: u32,
-) -> CpuMaskResult
-    ensures { λ r. ⌜ maskSays r ≡ maskOfFlags «current_mask» enable disable «is_running» «pin_only» ⌝ }
-{
-    if !((is_running <= 1) & (pin_only <= 1)) {
-        return CpuMaskResult {
-            mask: current_mask,
-            error: Code::Einval,
-        };
-    }
-    cpu_mask::cpu_mask_mod(
-        current_mask,
-        enable,
-        disable,
-        is_running == 1,
-        pin_only == 1,
-    )
-}
-
 // The mask with bits enabled and then disabled: 4 bytes. A refusal does not write the current mask. The two codes that the rule gives are told
 // apart by one test: a jump by the code costs more than the rule (docs/PERFORMANCE.md).
 #[no_mangle]
@@ -126,7 +98,7 @@ pub extern "C" fn hubcrackle_cpu_mask_mod(
     ensures code { λ r. ⌜ r ≡ callCode (maskMod «current_mask» enable disable «is_running» «pin_only») (length (now (out .entry))) ⌝ }
     ensures room { λ _. ⌜ now (out .exit) ≡ callRoom (maskMod «current_mask» enable disable «is_running» «pin_only») (now (out .entry)) ⌝ }
 {
-    let changed = mask_of_flags(current_mask, enable, disable, is_running, pin_only);
+    let changed = mask_flags::mask_of_flags(current_mask, enable, disable, is_running, pin_only);
     let code = changed.error;
     if error::is_ok(code) {
         lent_room::put_mask(out, Code::Ok, changed.mask)

@@ -53,9 +53,19 @@ fn by_thread(s: SpinlockState, tid: u32) {
     changed(b"acquire", s, tid, s.acquire(tid));
     changed(b"acquire_nested", s, tid, s.acquire_nested(tid));
     changed(b"release", s, tid, s.release(tid));
-    answered(b"acquire_check", s, tid, s.acquire_check(tid));
-    answered(b"release_check", s, tid, s.release_check(tid));
-    answered(b"is_owner", s, tid, s.is_owner(tid));
+    answered(
+        b"acquire_check",
+        s,
+        tid,
+        spinlock_reads::acquire_check(s, tid),
+    );
+    answered(
+        b"release_check",
+        s,
+        tid,
+        spinlock_reads::release_check(s, tid),
+    );
+    answered(b"is_owner", s, tid, spinlock_reads::is_owner(s, tid));
     elsewhere(s, tid);
 }
 
@@ -93,7 +103,7 @@ fn read(name: &[u8], s: SpinlockState, r: YesNo) {
 fn depth(s: SpinlockState) {
     show::text(b"nest_depth");
     state(s);
-    let r = s.nest_depth();
+    let r = spinlock_reads::nest_depth(s);
     let code = r.code;
     show::code(code);
     show::argument(b"depth", r.depth as u64);
@@ -103,7 +113,7 @@ fn depth(s: SpinlockState) {
 fn owner_of(s: SpinlockState) {
     show::text(b"owner_get");
     state(s);
-    let r = s.owner_get();
+    let r = spinlock_reads::owner_get(s);
     let code = r.code;
     show::code(code);
     let o = r.owner;
@@ -121,8 +131,8 @@ fn validity(s: SpinlockState) {
 
 fn on_record(s: SpinlockState) {
     validity(s);
-    read(b"is_held", s, s.is_held());
-    read(b"is_free", s, s.is_free());
+    read(b"is_held", s, spinlock_reads::is_held(s));
+    read(b"is_free", s, spinlock_reads::is_free(s));
     depth(s);
     owner_of(s);
     for i in 0..3 {

@@ -1,13 +1,7 @@
 -- What is said of this crate's results tells them apart, so each statement here allows one result. Assumes nothing.
 use mathlib.Core.Path.{refl}
 use Rattle.error.proofs.OneResult.{TellsApart, coded-apart}
-use Rattle.spinlock.specs.Lock.{changedSays, depthSays, ownerSays}
+use Rattle.spinlock.specs.Lock.{changedSays}
 
 pub changed-apart : TellsApart changedSays
 changed-apart = coded-apart (λ c s. record { code = c; state = s }) (λ a. a .code) (λ a. a .state) (λ a. refl)
-
-pub depth-apart : TellsApart depthSays
-depth-apart = coded-apart (λ c d. record { code = c; depth = d }) (λ a. a .code) (λ a. a .depth) (λ a. refl)
-
-pub owner-apart : TellsApart ownerSays
-owner-apart = coded-apart (λ c o. record { code = c; owner = o }) (λ a. a .code) (λ a. a .owner) (λ a. refl)

@@ -8,8 +8,6 @@ use Rattle.spinlock.specs.declared.Owner.{Owner}
 use Rattle.spinlock.specs.declared.Owner.the-variants.{None, Thread}
 use Rattle.spinlock.specs.declared.SpinlockState.{SpinlockState}
 use Rattle.spinlock.specs.declared.Changed.{Changed}
-use Rattle.spinlock.specs.declared.Depth.{Depth}
-use Rattle.spinlock.specs.declared.OwnerRead.{OwnerRead}
 use Rattle.spinlock.specs.declared.Operation.{Operation}
 use Rattle.spinlock.specs.declared.Operation.the-variants.{Acquire, Nested, Release}
 use Rattle.spinlock.specs.declared.Situation.{Situation}
@@ -19,14 +17,6 @@ use Rattle.spinlock.specs.Table.{codeOf}
 -- What a changed record says, in 01's terms: a code and the record after it.
 abbrev pub changedSays : Changed → Answer SpinlockState
 changedSays a = answer (numberOf (a .code)) (a .state)
-
--- What a depth says: a code and a number.
-abbrev pub depthSays : Depth → Answer ℕ
-depthSays a = answer (numberOf (a .code)) (a .depth)
-
--- What an owner read says: a code and an owner.
-abbrev pub ownerSays : OwnerRead → Answer Owner
-ownerSays a = answer (numberOf (a .code)) (a .owner)
 
 -- The greatest depth.
 abbrev pub maxNestDepth : ℕ

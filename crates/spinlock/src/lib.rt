@@ -1,8 +1,7 @@
 // One lock record: who holds a spinlock, how deep, and whether interrupts were saved when it was taken.
 //
 // Upstream: src/spinlock.rs, `SpinlockState` with its methods, by value: a call takes the record and gives it back.
-//   init -> new; acquire_check, acquire, acquire_nested, release, is_held, is_free, nest_depth, owner_get, is_owner keep their names
-//   release_check is named upstream and stands in no file: here it says whether the given thread owns the record
+//   init -> new; acquire, acquire_nested and release keep their names; the calls that only read are in spinlock_reads
 //   set_owner is named upstream and stands in no file: spinlock_validate::spin_lock_compute_owner stands for it
 //   operate is new: acquire, acquire_nested and release in one, for a thread that may be on another CPU than it took the lock on
 // What upstream requires, a valid record, is tested here: an invalid one is EINVAL in every call and comes back as given. A caller can
@@ -11,12 +10,9 @@ ghost use mathlib.Core.Path.{_≡_};
 ghost use mathlib.Core.Bool.{Bool, true, false};
 ghost use Prim.Native.Nat.{_<_};
 ghost use Rattle.error.specs.Codes.{numberOf};
-ghost use Rattle.error.specs.Answer.{yesNoSays};
 ghost use Rattle.spinlock.specs.Table.{rowOf, columnOf, codeOf};
 ghost use Rattle.spinlock.specs.Lock.{
   changedSays,
-  depthSays,
-  ownerSays,
   freeRecord,
   takenBy,
   maxNestDepth,
@@ -24,24 +20,13 @@ ghost use Rattle.spinlock.specs.Lock.{
   shallower as Lock·shallower,
   after as Lock·after,
   operate as Lock·operate,
-  held,
-  owns,
-  read,
   validRecord,
   situationAt,
-  acquireCheck,
   acquire,
   acquireNested,
   release,
-  releaseCheck,
-  isHeld,
-  isFree,
-  nestDepth,
-  ownerGet,
-  isOwner,
 };
 use error::Code;
-use error::YesNo;
 
 // How deep one thread may nest.
 pub const MAX_NEST_DEPTH: u32 = 255;
@@ -63,18 +48,6 @@ pub struct SpinlockState {
 pub struct Changed {
     pub code: Code,
     pub state: SpinlockState,
-}
-
-// A nesting depth, or 0 with the code of the refusal.
-pub struct Depth {
-    pub code: Code,
-    pub depth: u32,
-}
-
-// An owner, or none with the code of the refusal.
-pub struct OwnerRead {
-    pub code: Code,
-    pub owner: Owner,
 }
 
 // The calls that change a record.
@@ -287,104 +260,5 @@ impl SpinlockState {
         ensures { λ r. ⌜ changedSays r ≡ release self tid ⌝ }
     {
         self.operate(Operation::Release, tid, false)
-    }
-
-    fn has_owner(self) -> bool
-        ensures { λ r. ⌜ r ≡ held (self .owner) ⌝ }
-    {
-        let owner = self.owner;
-        match owner {
-            Owner::None => false,
-            Owner::Thread(_) => true,
-        }
-    }
-
-    fn owned_by(self, tid: u32) -> bool
-        ensures { λ r. ⌜ r ≡ owns (self .owner) tid ⌝ }
-    {
-        let owner = self.owner;
-        match owner {
-            Owner::None => false,
-            Owner::Thread(holder) => holder == tid,
-        }
-    }
-
-    // The yes or no of a valid record; no, refused, of an invalid one.
-    fn answered(self, yes: bool) -> YesNo
-        ensures { λ r. ⌜ yesNoSays r ≡ read self yes false ⌝ }
-    {
-        if !self.valid() {
-            return YesNo {
-                code: Code::Einval,
-                yes: false,
-            };
-        }
-        YesNo {
-            code: Code::Ok,
-            yes,
-        }
-    }
-
-    // Whether a plain acquire would be taken: only a free lock's.
-    pub fn acquire_check(self, tid: u32) -> YesNo
-        ensures { λ r. ⌜ yesNoSays r ≡ acquireCheck self tid ⌝ }
-    {
-        self.is_free()
-    }
-
-    // Whether the thread may release.
-    pub fn release_check(self, tid: u32) -> YesNo
-        ensures { λ r. ⌜ yesNoSays r ≡ releaseCheck self tid ⌝ }
-    {
-        self.is_owner(tid)
-    }
-
-    pub fn is_held(self) -> YesNo
-        ensures { λ r. ⌜ yesNoSays r ≡ isHeld self ⌝ }
-    {
-        self.answered(self.has_owner())
-    }
-
-    pub fn is_free(self) -> YesNo
-        ensures { λ r. ⌜ yesNoSays r ≡ isFree self ⌝ }
-    {
-        self.answered(!self.has_owner())
-    }
-
-    pub fn is_owner(self, tid: u32) -> YesNo
-        ensures { λ r. ⌜ yesNoSays r ≡ isOwner self tid ⌝ }
-    {
-        self.answered(self.owned_by(tid))
-    }
-
-    pub fn nest_depth(self) -> Depth
-        ensures { λ r. ⌜ depthSays r ≡ nestDepth self ⌝ }
-    {
-        if !self.valid() {
-            return Depth {
-                code: Code::Einval,
-                depth: 0,
-            };
-        }
-        Depth {
-            code: Code::Ok,
-            depth: self.nest_count,
-        }
-    }
-
-    pub fn owner_get(self) -> OwnerRead
-        ensures { λ r. ⌜ ownerSays r ≡ ownerGet self ⌝ }
-    {
-        if !self.valid() {
-            return OwnerRead {
-                code: Code::Einval,
-                owner: Owner::None,
-            };
-        }
-        let owner = self.owner;
-        OwnerRead {
-            code: Code::Ok,
-            owner,
-        }
     }
 }

@@ -5,7 +5,7 @@ use mir.Syntax.{w32}
 use mir.ValLaws.{toZ-ofZ}
 use Rattle.lent_room.specs.Room.{maskBytes}
 use Rattle.kernel.proofs.Answered.{answered}
-use Rattle.kernel.proofs.MaskCodes.{done-is, refused-is}
+use Rattle.mask_flags.proofs.MaskCodes.{done-is, refused-is}
 use borrow.Author.Needs.{needs}
 use Rattle.kernel.proofs.hubcrackle_cpu_mask_mod.Statement.{statement}
 use Rattle.kernel.proofs.hubcrackle_cpu_mask_mod.Tie as tie
