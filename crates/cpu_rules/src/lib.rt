@@ -7,7 +7,7 @@
 ghost use mathlib.Core.Path.{_≡_};
 ghost use Rattle.order.specs.Outcome.{appliedTo};
 ghost use mathlib.Core.Bool.{_&&_};
-ghost use Rattle.machine.specs.State.{hasCpu, isThread, isCurrent, idleRun};
+ghost use Rattle.machine.specs.State.{hasCpu, isThread, idleRun};
 ghost use Rattle.rules.specs.Rules.{
   runSays,
   seatSays,
@@ -43,15 +43,6 @@ fn is_occupied(current: Current) -> bool
     match current {
         Current::None => false,
         Current::Thread(_) => true,
-    }
-}
-
-fn is_current(current: Current, t: ThreadId) -> bool
-    ensures { λ r. ⌜ r ≡ isCurrent current (t .0) ⌝ }
-{
-    match current {
-        Current::None => false,
-        Current::Thread(s) => s.0 == t.0,
     }
 }
 
@@ -151,7 +142,7 @@ fn take(t: ThreadId, hold: u32, run: Run, thread: Thread) -> SeatOut
     ensures { λ r. ⌜ seatSays r ≡ appliedTo (run, thread) (Rules·take (t .0) hold run thread) ⌝ }
 {
     let current = run.current;
-    if !is_current(current, t) {
+    if !rules::is_current(current, t) {
         return SeatOut {
             code: Code::Eperm,
             run,

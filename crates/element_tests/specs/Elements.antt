@@ -11,7 +11,7 @@ use Rattle.words.specs.Bit.{bit}
 use Rattle.words.specs.Tag.{wordOf, cpuOf}
 use Rattle.spinlock.specs.Lock.{validRecord}
 use Rattle.spinlock.specs.declared.Owner.{Owner}
-use Rattle.machine.specs.State.{threadCount, tagBits, threadWord, isCurrent, noCpu, noThread}
+use Rattle.machine.specs.State.{threadCount, tagBits, threadWord, names, isCurrent, noCpu, noThread}
 use Rattle.machine.specs.declared.Current.{Current}
 use Rattle.machine.specs.declared.Place.{Place}
 use Rattle.machine.specs.declared.Run.{Run}
@@ -50,10 +50,6 @@ ownerOk s cpus k (Owner.Thread t) =
 -- below n on which that owner is current.
 abbrev pub lockBy : Setup → List Cpu → Lock → Bool
 lockBy s cpus k = validRecord (k .state) && ownerOk s cpus k (k .state .owner)
-
--- The word names CPU c; word 0 names nobody.
-abbrev pub names : Setup → ℕ → ℕ → Bool
-names s word c = not (eqb word 0) && eqb (cpuOf (tagBits s) word) c
 
 -- The depth of a lock whose word names CPU c, and 0 of another.
 abbrev pub depthFor : Setup → Lock → ℕ → ℕ

@@ -14,7 +14,7 @@ use Rattle.words.specs.Bit.{bit}
 use Rattle.words.specs.Tag.{cpuOf, threadOf}
 use Rattle.words.proofs.Tags.{word-thread, thread-nonzero, thread-alone}
 use Rattle.spinlock.specs.declared.Owner.{Owner}
-use Rattle.machine.specs.State.{cpuSlots, threadCount, lockCount, tagBits, threadWord, isCurrent, cpuAt, threadAt, lockAt}
+use Rattle.machine.specs.State.{cpuSlots, threadCount, lockCount, tagBits, threadWord, names, isCurrent, cpuAt, threadAt, lockAt}
 use Rattle.machine.specs.declared.Current.{Current}
 use Rattle.machine.specs.declared.Place.{Place}
 use Rattle.machine.specs.declared.Run.{Run}
@@ -32,11 +32,11 @@ use Rattle.rules.specs.Rules as Rules
 use Rattle.operations.specs.Cells.{run, thread, machineStore}
 use Rattle.operations.specs.Operations.{two}
 use Rattle.operations.specs.Asked.{answered, next}
-use Rattle.element_tests.specs.Elements.{names, depthFor}
+use Rattle.element_tests.specs.Elements.{depthFor}
 use Rattle.wellformed.specs.WellFormed.{sumBelow, wellFormed}
 use Rattle.wellformed.proofs.Facts.{WellFormed, says}
 use Rattle.kept.proofs.Apart.{nowhere-or-on}
-use Rattle.kept.proofs.Lengths.{Lengths}
+use Rattle.operations.proofs.Lengths.{Lengths}
 use Rattle.kept.proofs.Stored.{cpu-there, thread-there}
 use Rattle.kept.proofs.Accepted.{Accepting, Puts, put-accepted, Takes, take-accepted}
 use Rattle.kept.proofs.Kept.{idle-unlocked}

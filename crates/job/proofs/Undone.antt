@@ -39,7 +39,7 @@ use Rattle.operations.specs.Cells.{hold, lock, put, machineStore}
 use Rattle.operations.specs.Operations.{withHold}
 use Rattle.operations.specs.Asked.{answered, next}
 use Rattle.kept.proofs.Depths.{hold-most}
-use Rattle.kept.proofs.Lengths.{Lengths}
+use Rattle.operations.proofs.Lengths.{Lengths}
 use Rattle.kept.proofs.Stored.{cpu-there, lock-there}
 use Rattle.kept.proofs.Walk.{leaves, Ways, Told, walked}
 use Rattle.kept.proofs.Locked.{named, lock-valid}

@@ -8,7 +8,7 @@ use Rattle.error.specs.Codes.{isOK}
 use Rattle.words.specs.Tag.{cpuOf, threadOf}
 use Rattle.spinlock.specs.declared.Owner.{Owner}
 use Rattle.spinlock.specs.declared.Operation.{Operation as LockOperation}
-use Rattle.machine.specs.State.{lockCount, tagBits, threadWord, cpuAt, lockAt}
+use Rattle.machine.specs.State.{lockCount, tagBits, threadWord, names, cpuAt, lockAt}
 use Rattle.machine.specs.declared.CpuId.{CpuId}
 use Rattle.machine.specs.declared.LockId.{LockId}
 use Rattle.machine.specs.declared.Current.{Current}
@@ -16,7 +16,6 @@ use Rattle.machine.specs.declared.Machine.{Machine}
 use Rattle.record.specs.Record.{request, requestOf}
 use Rattle.record.specs.declared.Operation.{Operation}
 use Rattle.record.specs.declared.Request.{Request}
-use Rattle.element_tests.specs.Elements.{names}
 use Rattle.operations.specs.Asked.{answered, next}
 
 -- No lock's record has the thread as its owner, and no lock's word is made from its thread word.

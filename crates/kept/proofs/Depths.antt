@@ -10,12 +10,12 @@ use Rattle.words.proofs.Choice.{bool-ind}
 use Rattle.words.proofs.Tags.{word-nonzero}
 use Rattle.spinlock.specs.Lock.{maxNestDepth}
 use Rattle.spinlock.specs.declared.Owner.{Owner}
-use Rattle.machine.specs.State.{cpuSlots, lockCount, tagBits, cpuAt, lockAt}
+use Rattle.machine.specs.State.{cpuSlots, lockCount, tagBits, names, cpuAt, lockAt}
 use Rattle.machine.specs.declared.Current.{Current}
 use Rattle.machine.specs.declared.Lock.{Lock}
 use Rattle.machine.specs.declared.Setup.{Setup}
 use Rattle.machine.specs.declared.Machine.{Machine}
-use Rattle.element_tests.specs.Elements.{names, depthFor}
+use Rattle.element_tests.specs.Elements.{depthFor}
 use Rattle.wellformed.specs.WellFormed.{holdSum}
 use Rattle.wellformed.proofs.Facts.{HeldLock, WellFormed}
 use Rattle.kept.proofs.Kept.{Unlocked}

@@ -31,7 +31,7 @@ use Rattle.operations.specs.Operations.{one, two, withHold, onCpu, onLock, onTh
 use Rattle.operations.specs.Asked.{next}
 use Rattle.operations.specs.Log.{recordAt, stateAt}
 use Rattle.operations.proofs.Turns.{writes-none}
-use Rattle.kept.proofs.Lengths.{Lengths, next-lengths}
+use Rattle.operations.proofs.Lengths.{Lengths, next-lengths}
 use Rattle.kept.proofs.Accepted.{
   Accepting,
   Ups,

@@ -1,5 +1,4 @@
 pub mod Apart
-pub mod Lengths
 pub mod Stored
 pub mod Kept
 pub mod Accepted

@@ -13,7 +13,7 @@ use Rattle.element_tests.specs.Elements.{depthFor}
 use Rattle.wellformed.specs.WellFormed.{holdSum}
 use Rattle.wellformed.proofs.Facts.{currentAt, holdAt, GoodLock, Seats, Locks, Counts, WellFormed}
 use Rattle.operations.specs.Cells.{setCpu, setLock}
-use Rattle.kept.proofs.Lengths.{Lengths}
+use Rattle.operations.proofs.Lengths.{Lengths}
 use Rattle.kept.proofs.Stored.{Stored, part, same-part, cpu-stored, lock-stored}
 use Rattle.kept.proofs.Kept.{locks-after-lock, counts-after-hold}
 use Rattle.kept.proofs.Sums.{sum-change}

@@ -13,7 +13,7 @@ use Rattle.wellformed.specs.WellFormed.{holdSum}
 use Rattle.wellformed.proofs.Facts.{runAt, currentAt, holdAt, GoodCpu, Locks, Counts, WellFormed}
 use Rattle.operations.specs.Cells.{run, setCpu, put}
 use Rattle.kept.proofs.Apart.{none-or-thread}
-use Rattle.kept.proofs.Lengths.{Lengths}
+use Rattle.operations.proofs.Lengths.{Lengths}
 use Rattle.kept.proofs.Stored.{Stored, part, same-part, cpu-stored}
 use Rattle.kept.proofs.Kept.{seats-after-run, Unlocked, idle-unlocked, locks-after-run}
 

@@ -9,7 +9,7 @@ use Rattle.machine.specs.declared.Machine.{Machine}
 use Rattle.rules.specs.Rules.{seated, unseated}
 use Rattle.wellformed.proofs.Facts.{WellFormed}
 use Rattle.kept.proofs.Apart.{none-or-thread, nowhere-or-on, same-thread, same-cpu}
-use Rattle.kept.proofs.Lengths.{Lengths}
+use Rattle.operations.proofs.Lengths.{Lengths}
 use Rattle.kept.proofs.Accepted.{Puts, Takes}
 use Rattle.kept.proofs.Kept.{idle-unlocked}
 use Rattle.kept.proofs.Depths.{unheld}

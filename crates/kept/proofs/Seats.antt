@@ -14,7 +14,7 @@ use Rattle.machine.specs.declared.Thread.{Thread}
 use Rattle.machine.specs.declared.Machine.{Machine}
 use Rattle.wellformed.proofs.Facts.{runAt, currentAt, Runs, Carried, Fit, GoodCpu, GoodThread, WellFormed}
 use Rattle.operations.specs.Cells.{setCpu, setThread}
-use Rattle.kept.proofs.Lengths.{Lengths}
+use Rattle.operations.proofs.Lengths.{Lengths}
 use Rattle.kept.proofs.Stored.{Stored, thread-stored}
 use Rattle.kept.proofs.Kept.{seats-after-both, Unlocked}
 use Rattle.kept.proofs.Running.{run-stored, run-locks, run-counts}

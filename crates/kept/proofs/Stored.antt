@@ -12,7 +12,7 @@ use Rattle.machine.specs.declared.Thread.{Thread}
 use Rattle.machine.specs.declared.Lock.{Lock}
 use Rattle.machine.specs.declared.Machine.{Machine}
 use Rattle.operations.specs.Cells.{setCpu, setThread, setLock}
-use Rattle.kept.proofs.Lengths.{Lengths}
+use Rattle.operations.proofs.Lengths.{Lengths}
 
 -- Array g is array f with v stored at i.
 pub record Stored {A : Type 0} (f g : ℕ → A) (i : ℕ) (v : A) : Type 0 where

@@ -8,7 +8,7 @@ use Rattle.machine.specs.declared.Machine.{Machine}
 use Rattle.wellformed.proofs.Facts.{currentAt, Fit, GoodThread, WellFormed}
 use Rattle.operations.specs.Cells.{setThread}
 use Rattle.kept.proofs.Apart.{nowhere-or-on}
-use Rattle.kept.proofs.Lengths.{Lengths}
+use Rattle.operations.proofs.Lengths.{Lengths}
 use Rattle.kept.proofs.Stored.{thread-stored}
 use Rattle.kept.proofs.Kept.{seats-after-thread}
 

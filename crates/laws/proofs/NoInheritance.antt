@@ -19,7 +19,7 @@ use Rattle.record.specs.declared.Operation.{Operation}
 use Rattle.wellformed.specs.WellFormed.{wellFormed}
 use Rattle.wellformed.proofs.Facts.{says}
 use Rattle.operations.specs.Asked.{next}
-use Rattle.kept.proofs.Lengths.{Lengths}
+use Rattle.operations.proofs.Lengths.{Lengths}
 use Rattle.job.specs.Job.{OwnsNothing, HoldsNothing, Accepted}
 use Rattle.job.proofs.NoInheritance as Job
 

@@ -14,7 +14,7 @@ use Rattle.record.specs.Record.{request}
 use Rattle.record.specs.declared.Operation.{Operation}
 use Rattle.wellformed.specs.WellFormed.{wellFormed}
 use Rattle.operations.specs.Asked.{next}
-use Rattle.kept.proofs.Lengths.{Lengths}
+use Rattle.operations.proofs.Lengths.{Lengths}
 use Rattle.job.specs.Job.{Accepted, Gives}
 use Rattle.job.proofs.Undone as Job
 

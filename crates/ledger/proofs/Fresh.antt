@@ -20,7 +20,7 @@ use Rattle.machine.specs.declared.Machine.{Machine}
 use Rattle.wellformed.specs.WellFormed.{sumBelow, wellFormed}
 use Rattle.operations.specs.Log.{stateAt}
 use Rattle.runner.specs.Run.{ran, ranRoom}
-use Rattle.kept.proofs.Lengths.{fresh-lengths}
+use Rattle.operations.proofs.Lengths.{fresh-lengths}
 use Rattle.kept.proofs.Laws.{states-keep}
 use Rattle.ledger.specs.Ledger.{Book, ofLock, ofCpu, emptyStand, acquires, releases, balance, InBooks, freshOf}
 use Rattle.ledger.proofs.Answers.{bytes-tell}

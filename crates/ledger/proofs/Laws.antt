@@ -17,7 +17,7 @@ use Rattle.operations.specs.Cells.{machineStore}
 use Rattle.operations.specs.Asked.{asked, next}
 use Rattle.operations.specs.Log.{recordAt, stateAt, answerAt}
 use Rattle.runner.specs.Run.{ran, ranRoom}
-use Rattle.kept.proofs.Lengths.{Lengths}
+use Rattle.operations.proofs.Lengths.{Lengths}
 use Rattle.kept.proofs.Laws.{states-keep}
 use Rattle.rearranged.proofs.MachineStore.{Shape, shape, machine-laws}
 use Rattle.ledger.specs.Ledger.{Book, acceptedAt, Stand, standAfter, balance, Balanced, openingOf, InBooks}

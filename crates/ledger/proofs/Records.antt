@@ -29,7 +29,7 @@ use Rattle.wellformed.proofs.Facts.{WellFormed}
 use Rattle.operations.specs.Cells.{Cell, run, hold, thread, lock, machineStore}
 use Rattle.operations.specs.Operations.{withHold, onCpu, onLock, onThread, operationBy}
 use Rattle.operations.specs.Asked.{answered, next}
-use Rattle.kept.proofs.Lengths.{Lengths}
+use Rattle.operations.proofs.Lengths.{Lengths}
 use Rattle.kept.proofs.Ranges.{asks-in-range}
 use Rattle.kept.proofs.Stored.{cpu-there, cpu-elsewhere, lock-there, lock-elsewhere}
 use Rattle.rearranged.proofs.MachineStore.{Shape, shape, machine-laws}

@@ -1,6 +1,6 @@
 -- 01, "The machine": n CPUs, 32 threads, and 128 locks, all free at the start, in one record.
 use Prim.Native.Nat.{ℕ, _+_, _*_, _/_, _%_, _^_}
-use mathlib.Core.Bool.{Bool, true, false, _&&_, cond}
+use mathlib.Core.Bool.{Bool, true, false, _&&_, not, cond}
 use lib.Dec.{eqb, leb, ltb}
 use lib.IntN.{ℤ, pos, negℤ}
 use lib.Signed.{leZ}
@@ -8,6 +8,7 @@ use mathlib.Core.List.{List}
 use lib.ListN.{getD, replicate}
 use Rattle.error.specs.Codes.{OK, EINVAL, numberOf}
 use Rattle.error.specs.Answer.{Answer, answer}
+use Rattle.words.specs.Tag.{cpuOf}
 use Rattle.spinlock.specs.Lock.{freeRecord}
 use Rattle.machine.specs.declared.Current.{Current}
 use Rattle.machine.specs.declared.Place.the-variants.{Nowhere}
@@ -56,6 +57,10 @@ tagBits k = 2
 -- Thread t has thread word 4(t+1).
 abbrev pub threadWord : Setup → ℕ → ℕ
 threadWord k t = 2 ^ tagBits k * (t + 1)
+
+-- The word names CPU c. Word 0 names nobody.
+abbrev pub names : Setup → ℕ → ℕ → Bool
+names k word c = not (eqb word 0) && eqb (cpuOf (tagBits k) word) c
 
 -- Thread t is the current one.
 abbrev pub isCurrent : Current → ℕ → Bool

@@ -1,3 +1,4 @@
 pub mod Turns
 pub mod Setups
 pub mod Refused
+pub mod Lengths

@@ -4,13 +4,16 @@
 // New here; the lock's rule goes by the crate spinlock, the owner word by spinlock_validate, masks by cpu_mask, interrupts by ipi. The code is in
 // three crates by what it changes: cpu_rules, lock_rules and thread_rules. A refusal hands every cell back as it was.
 ghost use mathlib.Core.Path.{_≡_};
+ghost use Rattle.machine.specs.State.{isCurrent};
 ghost use Rattle.rules.specs.Rules.{placed};
 use error::Code;
 use machine::Cpu;
+use machine::Current;
 use machine::Lock;
 use machine::Place;
 use machine::Run;
 use machine::Thread;
+use machine::ThreadId;
 
 // The code and the value of a record.
 pub struct Answered {
@@ -58,5 +61,15 @@ pub fn is_placed(place: Place) -> bool
     match place {
         Place::Nowhere => false,
         Place::On(_) => true,
+    }
+}
+
+// Whether a thread is the one that a CPU runs.
+pub fn is_current(current: Current, t: ThreadId) -> bool
+    ensures { λ r. ⌜ r ≡ isCurrent current (t .0) ⌝ }
+{
+    match current {
+        Current::None => false,
+        Current::Thread(s) => s.0 == t.0,
     }
 }

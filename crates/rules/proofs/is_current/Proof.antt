@@ -1,7 +1,7 @@
 -- By the current thread. Assumes nothing.
 use borrow.Author.Needs.{needs}
-use Rattle.cpu_rules.proofs.is_current.Statement.{statement}
-use Rattle.cpu_rules.proofs.is_current.Tie as tie
+use Rattle.rules.proofs.is_current.Statement.{statement}
+use Rattle.rules.proofs.is_current.Tie as tie
 
 enum-told : tie.Need-enum-told
 enum-told c = search needs
