@@ -5,7 +5,7 @@
  * calls and call nothing but memcpy, so any number of CPUs may be in them at once.
  *
  * The archive is plain System V x86-64 code: it may use SSE registers and the 128 bytes below the stack pointer. Call it where both are allowed.
- * As built now, hubcrackle_run takes about 17,000 bytes of stack, and every other function less than 512.
+ * As built now, hubcrackle_run takes about 10,200 bytes of stack, and every other function less than 512.
  *
  * Every function works in the same way.
  *
@@ -134,9 +134,10 @@ int32_t hubcrackle_validate_ipi_mask(uint32_t mask, uint32_t current_cpu, uint32
  *      9 priority  thread, A               0; A is -128 to 127, in two's complement
  *     10 ipi       CPU, thread             the CPUs to interrupt
  *     11 owner     lock                    the lock's owner word; thread t has thread word 4 (t + 1)
+ *     12 unwind    CPU, thread             how deep the CPU's locks were held, added up; it frees them all
  *
  * An answer: the record's code, 4 bytes in two's complement, and its value, 4 bytes, both most significant byte first. A refused record has an
- * answer too, with the value as it stands, and changes nothing; a record of another form is EINVAL with value 0.
+ * answer too, with the value as it stands, of unwind 0, and changes nothing; a record of another form is EINVAL with value 0.
  *
  * Value: HUBCRACKLE_ANSWER_BYTES for each record, in their order. An empty log has no answers and needs no room. The log is refused whole, in
  * this order: EINVAL: a bad setup byte. EOVERFLOW: log_len is above HUBCRACKLE_LOG_MAX. EINVAL: log_len is no multiple of

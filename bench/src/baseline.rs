@@ -112,7 +112,7 @@ impl Record {
         self.zero == 0
             && match self.op {
                 0 | 1 => cpu && no_thread && no_lock && no_masks,
-                2 | 3 | 8 | 10 => cpu && thread && no_lock && no_masks,
+                2 | 3 | 8 | 10 | 12 => cpu && thread && no_lock && no_masks,
                 4..=6 => cpu && no_thread && lock && no_masks,
                 7 => no_cpu && thread && no_lock,
                 9 => no_cpu && thread && no_lock && (-128..=127).contains(&(self.a as i32)) && self.b == 0,
@@ -315,6 +315,23 @@ impl Machine {
         (OK, mask)
     }
 
+    /// Not inlined, because its loop slows the other operations down there.
+    #[inline(never)]
+    fn unwind(&mut self, c: usize, t: usize) -> Answer {
+        let cpu = &mut self.cpus[c];
+        if cpu.current != Some(t as u32) {
+            return (EPERM, 0);
+        }
+        let hold = cpu.hold;
+        cpu.hold = 0;
+        for lock in &mut self.locks {
+            if lock.word != 0 && lock.word % 4 == c as u64 {
+                *lock = Lock::FREE;
+            }
+        }
+        (OK, hold)
+    }
+
     pub fn step(&mut self, bytes: &[u8; RECORD_BYTES]) -> Answer {
         let r = Record::parse(bytes);
         if !r.is_well_formed(self.n) {
@@ -332,7 +349,8 @@ impl Machine {
             8 => self.change_mask(r.thread, 1 << r.cpu),
             9 => self.set_priority(r.thread, r.a as i32),
             10 => self.ipi(r.cpu, r.thread),
-            _ => (OK, self.locks[r.lock].word as u32),
+            11 => (OK, self.locks[r.lock].word as u32),
+            _ => self.unwind(r.cpu, r.thread),
         }
     }
 

@@ -8,10 +8,10 @@ pub const RECORDS: usize = 2_048;
 /// Four CPUs, no pin-only.
 pub const SETUP: u8 = 0x40;
 
-pub const OPERATIONS: [&str; 12] = ["up", "down", "put", "take", "acquire", "nested", "release", "mask", "pin", "priority", "ipi", "owner"];
+pub const OPERATIONS: [&str; 13] = ["up", "down", "put", "take", "acquire", "nested", "release", "mask", "pin", "priority", "ipi", "owner", "unwind"];
 
-/// How often each operation is drawn, so that each is accepted often.
-const SHARES: [u64; 12] = [6, 4, 40, 60, 3, 3, 30, 1, 1, 1, 1, 1];
+/// How often each operation is drawn, so that each is accepted often. Unwind is drawn seldom: few jobs are stopped.
+const SHARES: [u64; 13] = [6, 4, 40, 60, 3, 3, 30, 1, 1, 1, 1, 1, 1];
 
 const CPUS: u64 = 4;
 /// Fewer threads and locks than a machine has, so that records meet each other's.
@@ -41,7 +41,7 @@ fn record(operation: usize, random: &mut Random) -> [u8; RECORD_BYTES] {
     let (cpu, thread, lock) = (random.below(CPUS) as u8, random.below(THREADS) as u8, random.below(LOCKS) as u8);
     let (cpu, thread, lock) = match OPERATIONS[operation] {
         "up" | "down" => (cpu, 0, 0),
-        "put" | "take" | "pin" | "ipi" => (cpu, thread, 0),
+        "put" | "take" | "pin" | "ipi" | "unwind" => (cpu, thread, 0),
         "acquire" | "nested" | "release" => (cpu, 0, lock),
         "mask" | "priority" => (0, thread, 0),
         _ => (0, 0, lock),
@@ -85,4 +85,15 @@ pub fn mixed(random: &mut Random) -> Vec<u8> {
 /// One operation only.
 pub fn only(operation: usize, random: &mut Random) -> Vec<u8> {
     log_of(random, |_| operation)
+}
+
+/// CPU 0 comes up, thread 0 is put on it, and every other record unwinds the two: accepted, over all locks, with none to free.
+pub fn unwind_running() -> Vec<u8> {
+    let mut bytes = vec![0; RECORDS * RECORD_BYTES];
+    for (at, record) in bytes.chunks_exact_mut(RECORD_BYTES).enumerate() {
+        let name = ["up", "put"].get(at).unwrap_or(&"unwind");
+        let operation = OPERATIONS.iter().position(|of| of == name).expect("an operation");
+        record[0] = (operation as u8) << 4;
+    }
+    bytes
 }

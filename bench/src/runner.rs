@@ -26,9 +26,10 @@ const ROUNDS: usize = 300;
 /// What is written over the room before a run, and must stay past the last answer.
 const FILL: u8 = 0x55;
 const PAST: usize = 5;
-/// The most that a log may take, as a ratio to the baseline: mixed, of one operation, and empty.
+/// The most that a log may take, as a ratio to the baseline: mixed, of one operation, of unwind, and empty.
 const MIXED_GOAL: f64 = 1.2;
 const ONLY_GOAL: f64 = 1.5;
+const UNWIND_GOAL: f64 = 2.0;
 const EMPTY_GOAL: f64 = 2.0;
 
 fn run(call: Run, log: &[u8], out: &mut [u8]) -> i32 {
@@ -36,12 +37,19 @@ fn run(call: Run, log: &[u8], out: &mut [u8]) -> i32 {
     unsafe { call(SETUP, log.as_ptr(), log.len(), out.as_mut_ptr(), out.len()) }
 }
 
-/// How many records of each operation were accepted, and how many there were.
-type Counts = [(usize, usize); OPERATIONS.len()];
+/// Of the records of an operation: how many were accepted, how many there were, and to how many of the accepted the value is not 0.
+#[derive(Clone, Copy, Default)]
+struct Count {
+    accepted: usize,
+    all: usize,
+    valued: usize,
+}
+
+type Counts = [Count; OPERATIONS.len()];
 
 /// Runs each log both ways, ends the process where a byte differs, and counts the accepted records.
 fn compare(logs: &[Vec<u8>]) -> Counts {
-    let mut counts = [(0, 0); OPERATIONS.len()];
+    let mut counts = Counts::default();
     for log in logs {
         let [ours, theirs] = RUNS.map(|call| {
             let mut out = vec![FILL; log.len() / RECORD_BYTES * ANSWER_BYTES + PAST];
@@ -52,8 +60,10 @@ fn compare(logs: &[Vec<u8>]) -> Counts {
         assert_eq!(differs, None, "the two answers to this record of a log differ");
         for (record, answer) in log.chunks_exact(RECORD_BYTES).zip(ours.chunks_exact(ANSWER_BYTES)) {
             let count = &mut counts[usize::from(record[0] >> 4)];
-            count.0 += usize::from(answer[..4] == OK.to_be_bytes());
-            count.1 += 1;
+            let accepted = answer[..4] == OK.to_be_bytes();
+            count.accepted += usize::from(accepted);
+            count.all += 1;
+            count.valued += usize::from(accepted && answer[4..] != [0; 4]);
         }
     }
     counts
@@ -77,19 +87,23 @@ fn times(logs: &[Vec<u8>]) -> [f64; 2] {
 
 /// Times the logs, prints a row, and says whether the goal is met. `count` is by how much a run's time is divided.
 fn row(name: &str, logs: &[Vec<u8>], count: usize, goal: f64) -> bool {
-    let (accepted, all) = compare(logs).iter().fold((0, 0), |sum, of| (sum.0 + of.0, sum.1 + of.1));
+    let (accepted, all) = compare(logs).iter().fold((0, 0), |sum, of| (sum.0 + of.accepted, sum.1 + of.all));
     let [ours, theirs] = times(logs).map(|time| time / count as f64);
     let accepted = format!("{accepted}/{all}");
-    println!("{name:<14} {accepted:>12} {ours:>10.2} {theirs:>10.2} {:>7.2} {goal:>5.1}", ours / theirs);
+    println!("{name:<15} {accepted:>12} {ours:>10.2} {theirs:>10.2} {:>7.2} {goal:>5.1}", ours / theirs);
     ours / theirs <= goal
 }
 
-/// Prints how often each operation of the mixed logs is accepted. The process ends if one never is.
+/// Prints how often each operation of the mixed logs is accepted. The process ends if one never is, or if no unwind frees a lock.
 fn print_accepted(mixed: &[Vec<u8>]) {
     print!("accepted in the mixed logs:");
-    for (name, (accepted, all)) in OPERATIONS.iter().zip(compare(mixed)) {
+    for (name, Count { accepted, all, valued }) in OPERATIONS.iter().zip(compare(mixed)) {
         assert!(accepted > 0, "{name} is never accepted: the logs do not keep it busy");
         print!(" {name} {accepted}/{all}");
+        if *name == "unwind" {
+            assert!(valued > 0, "no unwind frees a lock: the logs do not keep it busy");
+            print!(", {valued} with locks held");
+        }
     }
     println!();
 }
@@ -98,12 +112,14 @@ fn main() {
     let mut random = Random::new(SEED);
     let mixed: Vec<_> = (0..LOGS).map(|_| logs::mixed(&mut random)).collect();
     println!("{LOGS} logs of {RECORDS} records, best of {ROUNDS} rounds; ns a record, and of the empty log ns a run");
-    println!("{:<14} {:>12} {:>10} {:>10} {:>7} {:>5}", "log", "accepted", "proved", "baseline", "ratio", "goal");
+    println!("{:<15} {:>12} {:>10} {:>10} {:>7} {:>5}", "log", "accepted", "proved", "baseline", "ratio", "goal");
     let mut met = Vec::new();
     for (operation, name) in OPERATIONS.iter().enumerate() {
         let only: Vec<_> = (0..LOGS).map(|_| logs::only(operation, &mut random)).collect();
-        met.push(row(&format!("{name} only"), &only, RECORDS, ONLY_GOAL));
+        let goal = if *name == "unwind" { UNWIND_GOAL } else { ONLY_GOAL };
+        met.push(row(&format!("{name} only"), &only, RECORDS, goal));
     }
+    met.push(row("unwind, running", &vec![logs::unwind_running(); LOGS], RECORDS, UNWIND_GOAL));
     met.push(row("mixed", &mixed, RECORDS, MIXED_GOAL));
     met.push(row("empty log", &vec![Vec::new(); LOGS], 1, EMPTY_GOAL));
     print_accepted(&mixed);

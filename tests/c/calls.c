@@ -207,6 +207,16 @@ static void interrupts(void)
     TRY(ENOMEM, "", hubcrackle_validate_ipi_mask(2, 0, 4, out, 0));
 }
 
+/* Writes a log of records whose first four bytes are given and whose other eight are zero. Says how long it is. */
+static size_t spread(uint8_t *log, const uint8_t heads[][4], int count)
+{
+    int at;
+
+    for (at = 0; at < count * 12; at++)
+        log[at] = at % 12 < 4 ? heads[at / 12][at % 12] : 0;
+    return (size_t)count * HUBCRACKLE_RECORD_BYTES;
+}
+
 static void logs(void)
 {
     /* "One log entire" of document 01, without the eight zero bytes that end each record. */
@@ -215,11 +225,8 @@ static void logs(void)
     /* Take from an idle CPU, and up twice: refused records have answers too. */
     static const uint8_t refusals[36] = { 0x30, 3, 0, 0, 0, 0, 0, 0, 0, 0, 0, 0, 0x00 };
     uint8_t log[7 * HUBCRACKLE_RECORD_BYTES];
-    int at;
 
-    for (at = 0; at < (int)sizeof log; at++)
-        log[at] = at % 12 < 4 ? heads[at / 12][at % 12] : 0;
-
+    spread(log, heads, 7);
     TRY(OK,
         "0000000000000000"
         "0000000000000000"
@@ -244,6 +251,78 @@ static void logs(void)
     TRY(ENOMEM, "", hubcrackle_run(0x20, zeros, HUBCRACKLE_LOG_MAX, out, ROOM - 1));
 }
 
+/* Locks that are given back by one record, because their job was stopped. */
+static void unwinds(void)
+{
+    /* Thread 3 holds lock 7 three deep and cannot be taken. It is unwound and taken, and thread 4 acquires the same lock. */
+    static const uint8_t stopped[][4] = { { 0x00, 0, 0, 0 }, { 0x20, 3, 0, 0 }, { 0x40, 0, 7, 0 }, { 0x50, 0, 7, 0 }, { 0x50, 0, 7, 0 },
+                                          { 0x30, 3, 0, 0 }, { 0xc0, 3, 0, 0 }, { 0x30, 3, 0, 0 }, { 0x20, 4, 0, 0 }, { 0x40, 0, 7, 0 } };
+    /* CPU 0 holds the first lock and the last, CPU 1 one between. The unwind of one CPU leaves the other's locks. */
+    static const uint8_t two_cpus[][4] = { { 0x00, 0, 0, 0 }, { 0x01, 0, 0, 0 }, { 0x20, 3, 0, 0 }, { 0x21, 4, 0, 0 },
+                                           { 0x40, 0, 0, 0 }, { 0x40, 0, 127, 0 }, { 0x41, 0, 64, 0 }, { 0xc0, 3, 0, 0 },
+                                           { 0xb0, 0, 0, 0 }, { 0xb0, 0, 127, 0 }, { 0xb0, 0, 64, 0 }, { 0xc1, 4, 0, 0 },
+                                           { 0xb0, 0, 64, 0 }, { 0xc1, 4, 0, 0 } };
+    /* Nobody on the CPU; with lock 7 held, another thread, and the thread on another CPU; then a form that is wrong in one field each, the number
+     * after unwind, and a release, which shows that the lock is still held. */
+    static const uint8_t refused[][4] = { { 0x00, 0, 0, 0 }, { 0xc0, 0, 0, 0 }, { 0x20, 3, 0, 0 }, { 0x40, 0, 7, 0 }, { 0xc0, 4, 0, 0 },
+                                          { 0xc1, 3, 0, 0 }, { 0xc2, 3, 0, 0 }, { 0xc0, 32, 0, 0 }, { 0xc0, 3, 7, 0 }, { 0xc0, 3, 0, 1 },
+                                          { 0xc0, 3, 0, 0 }, { 0xc0, 3, 0, 0 }, { 0xd0, 3, 0, 0 }, { 0x60, 0, 7, 0 } };
+    uint8_t log[14 * HUBCRACKLE_RECORD_BYTES];
+    size_t log_len;
+
+    log_len = spread(log, stopped, 10);
+    TRY(OK,
+        "0000000000000000"
+        "0000000000000000"
+        "0000000000000001"
+        "0000000000000002"
+        "0000000000000003"
+        "fffffff000000000"
+        "0000000000000003"
+        "0000000000000000"
+        "0000000000000000"
+        "0000000000000001",
+        hubcrackle_run(0x20, log, log_len, out, 80));
+
+    log_len = spread(log, two_cpus, 14);
+    TRY(OK,
+        "0000000000000000"
+        "0000000000000000"
+        "0000000000000000"
+        "0000000000000000"
+        "0000000000000001"
+        "0000000000000001"
+        "0000000000000001"
+        "0000000000000002"
+        "0000000000000000"
+        "0000000000000000"
+        "0000000000000015"
+        "0000000000000001"
+        "0000000000000000"
+        "0000000000000000",
+        hubcrackle_run(0x20, log, log_len, out, ROOM));
+
+    log_len = spread(log, refused, 14);
+    log[10 * HUBCRACKLE_RECORD_BYTES + 7] = 1;  /* A */
+    log[11 * HUBCRACKLE_RECORD_BYTES + 11] = 1; /* B */
+    TRY(OK,
+        "0000000000000000"
+        "ffffffff00000000"
+        "0000000000000000"
+        "0000000000000001"
+        "ffffffff00000000"
+        "ffffffff00000000"
+        "ffffffea00000000"
+        "ffffffea00000000"
+        "ffffffea00000000"
+        "ffffffea00000000"
+        "ffffffea00000000"
+        "ffffffea00000000"
+        "ffffffea00000000"
+        "0000000000000000",
+        hubcrackle_run(0x20, log, log_len, out, 112));
+}
+
 /* The longest log: the first record is accepted, and the other 2047 are EALREADY. */
 static void longest_log(void)
 {
@@ -262,6 +341,7 @@ int main(void)
     masks();
     interrupts();
     logs();
+    unwinds();
     longest_log();
     printf("%d calls, %d wrong\n", calls, wrong);
     return wrong != 0;

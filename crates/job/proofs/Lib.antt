@@ -1,3 +1,4 @@
 pub mod NoInheritance
 pub mod Exclusion
 pub mod Undone
+pub mod Stopped

@@ -48,7 +48,7 @@ use Rattle.kept.proofs.Ranges.{asks-in-range}
 use Rattle.job.specs.Job.{OwnsNothing, HoldsNothing, Accepted}
 
 -- A lock is free, or some thread's.
-owner-cases : (A : Type 0) (o : Owner) → (o ≡ Owner.None → A) → ((t : ℕ) → o ≡ Owner.Thread t → A) → A
+pub owner-cases : (A : Type 0) (o : Owner) → (o ≡ Owner.None → A) → ((t : ℕ) → o ≡ Owner.Thread t → A) → A
 owner-cases A Owner.None none some = none refl
 owner-cases A (Owner.Thread t) none some = some t refl
 
@@ -66,7 +66,7 @@ module _ (m : Machine) (w : WellFormed m) where
   owner-placed l h t e nowhere = nowhere-or-on (sym nowhere ∙ owner-carried m w l h t e .place)
 
   -- The thread word in a lock's word is its owner's.
-  owner-word : (l : ℕ) → l < lockCount → (t : ℕ) → lockAt m l .state .owner ≡ Owner.Thread t
+  pub owner-word : (l : ℕ) → l < lockCount → (t : ℕ) → lockAt m l .state .owner ≡ Owner.Thread t
       → threadOf (tagBits (m .setup)) (lockAt m l .word) ≡ threadWord (m .setup) t
   owner-word l h t e =
       let k = tagBits (m .setup) in
@@ -182,3 +182,14 @@ module _ (m : Machine) (s : Lengths m) (good : wellFormed m ≡ true) (bytes : L
       rw (a .asks)
       (seat-done m (c .0) (t .0) _ (Nothing (c .0) (t .0)) (Rules.put (c .0) (t .0) r k) (put-accepted (c .0) (t .0) r k) (put-honest (c .0) (t .0) r k)
       (rw (a .asks) at (a .ok)) (put-on m s w (c .0) (t .0) (range .cpu) (range .thread)))
+
+  -- A put leaves every lock, so that a thread that owned nothing owns nothing.
+  pub put-leaves : (u : ℕ) → OwnsNothing m u → {z : ℕ} → Accepted m bytes (request (Operation.OnCpu CpuOperation.Put) (c .0) (t .0) z)
+      → OwnsNothing (next m bytes) u
+  unfolding next answered
+  put-leaves u owns a =
+      let r = cpuAt m (c .0) .run in
+      let k = threadAt m (t .0) in
+      rw (a .asks)
+      (seat-done m (c .0) (t .0) _ (λ (x : Machine). OwnsNothing x u) (Rules.put (c .0) (t .0) r k) (put-accepted (c .0) (t .0) r k)
+      (put-honest (c .0) (t .0) r k) (rw (a .asks) at (a .ok)) (λ v _. record { owner = owns .owner; word = owns .word }))

@@ -52,6 +52,7 @@ use Rattle.kept.proofs.Seats.{reseated}
 use Rattle.kept.proofs.Seated.{put-kept, take-kept}
 use Rattle.kept.proofs.Locks.{relocked, relocked-kept}
 use Rattle.kept.proofs.Locked.{lock-accepted}
+use Rattle.kept.proofs.Unwinds.{unwind-kept}
 use Rattle.kept.proofs.Ranges.{asks-in-range}
 
 -- A refusal leaves the machine; what is accepted is stored.
@@ -133,7 +134,7 @@ module _ (m : Machine) (s : Lengths m) (w : WellFormed m) where
       let k = threadAt m t in
       thread-outcome m w t _ (Rules.priority a k) (priority-accepted a k) (priority-kept t ht a (priority-says a p))
 
-  -- So does every operation: those of no family store nothing.
+  -- So does every operation: ipi and owner store nothing.
   operation-kept : (op : Operation) (c t l : ℕ) → c < m .setup .n → t < threadCount → l < lockCount → priorityOk op ≡ true
       → WellFormed (afterwards (operationBy (m .setup) op c t l))
   operation-kept Operation.Malformed c t l hc ht hl p = w
@@ -143,6 +144,7 @@ module _ (m : Machine) (s : Lengths m) (w : WellFormed m) where
   operation-kept Operation.Ipi c t l hc ht hl p =
       rw (writes-none m (result machineStore (Answer ℕ) (operationBy (m .setup) Operation.Ipi c t l) m)) w
   operation-kept Operation.Owner c t l hc ht hl p = w
+  operation-kept Operation.Unwind c t l hc ht hl p = unwind-kept m s w c t hc
 
   -- Every request in range leaves a well-formed machine.
   pub request-kept : (r : Request) → Ranged (m .setup) r → priorityOk (r .operation) ≡ true

@@ -12,5 +12,6 @@ pub mod Seated
 pub mod Locks
 pub mod Walk
 pub mod Locked
+pub mod Unwinds
 pub mod Ranges
 pub mod Laws

@@ -143,11 +143,11 @@ module _ (m : Machine) (w : WellFormed m) (c l t : ℕ) (hc : c < m .setup .n) (
           others = λ d other. depth-zero (m .setup) v d word ∙ sym (depth-other (m .setup) (lockAt m l) d (λ e. other (sym e ∙ named)));
         }
 
-  word-held : (v : SpinlockState) (u x : ℕ) → v .owner ≡ Owner.Thread u → lockAt m l .state .owner ≡ Owner.Thread x
+  pub word-held : (v : SpinlockState) (u x : ℕ) → v .owner ≡ Owner.Thread u → lockAt m l .state .owner ≡ Owner.Thread x
       → wordAfter (m .setup) c t (lockAt m l) v ≡ lockAt m l .word
   word-held v u x now before = rw (now, before)
 
-  word-made : (v : SpinlockState) → v .owner ≡ Owner.Thread t → lockAt m l .state .owner ≡ Owner.None
+  pub word-made : (v : SpinlockState) → v .owner ≡ Owner.Thread t → lockAt m l .state .owner ≡ Owner.None
       → wordAfter (m .setup) c t (lockAt m l) v ≡ wordOf c (threadWord (m .setup) t)
   word-made v now before =
       let k = tagBits (m .setup) in

@@ -1,7 +1,8 @@
 -- From a fresh machine, after every prefix of every log that is run: a lock's depth and the accepted releases of it are together the accepted
--- acquires of it, and a CPU's hold and the accepted releases by it are together the accepted acquires by it. So no level of a lock is ever made
--- up or lost. They are counted from the log's bytes and the answer bytes alone. Record and word agree all along, and a CPU's hold is the sum of
--- the depths of the locks whose word names it: the machine is well-formed after every prefix.
+-- acquires of it, and a CPU's hold and the accepted releases by it are together the accepted acquires by it. An unwind counts as the releases that
+-- it makes: of a lock whose last accepted acquire came from its CPU as many as the ledger stood at, of the CPU its whole hold. So no level of a
+-- lock is ever made up or lost. They are counted from the log's bytes and the answer bytes alone. Record and word agree all along, and a CPU's
+-- hold is the sum of the depths of the locks whose word names it: the machine is well-formed after every prefix.
 --
 -- `acquires`, `releases`, `balance`, the books and the fresh machine of a setup stand in ledger/specs/Ledger.antt, `ranRoom` (the answer bytes)
 -- in runner/specs/Run.antt, `stateAt` in operations/specs/Log.antt. The proofs are in ledger/proofs/Fresh.antt. Assumes nothing.

@@ -6,3 +6,5 @@ pub mod Ledger
 pub mod NoInheritance
 pub mod Exclusion
 pub mod NothingLost
+pub mod StoppedJob
+pub mod Accident

@@ -1,8 +1,8 @@
 -- The answer bytes of a run tell which records were accepted. Every answer has one of the seven codes of 01, by the operation and within a rule
 -- by its tests; so its code fits the four bytes that it is written in, and is read back from them. Assumes nothing.
-use mathlib.Core.Path.{_≡_, refl, ap, _∙_}
+use mathlib.Core.Path.{_≡_, refl, sym, ap, _∙_, subst}
 use mathlib.Core.Bool.{Bool, true, false, _&&_, _||_, not, cond}
-use mathlib.Core.List.{List}
+use mathlib.Core.List.{List, []}
 use Prim.Native.Nat.{ℕ, _/_, _<_}
 use lib.Dec.{eqb, lit<}
 use lib.IntN.{ℤ}
@@ -22,8 +22,9 @@ use Rattle.spinlock.specs.declared.Situation.{Situation}
 use Rattle.cpu_mask.specs.Mask.{maskBits, newMask, validatePinMask, cpuMaskMod}
 use Rattle.ipi.specs.Ipi.{maxIpiCpus, countsFit, computeIpiMask}
 use Rattle.order.specs.Outcome.{Outcome, refuse, accept, answerOf}
-use Rattle.order.specs.Cells.{reply}
-use Rattle.machine.specs.State.{cpuSlots, isThread, isCurrent, cpuAt, threadAt, lockAt}
+use Rattle.order.specs.Cells.{Vals, reply}
+use Rattle.order.proofs.Every.{values}
+use Rattle.machine.specs.State.{cpuSlots, lockCount, isThread, isCurrent, cpuAt, threadAt, lockAt}
 use Rattle.machine.specs.declared.Current.{Current}
 use Rattle.machine.specs.declared.Setup.{Setup}
 use Rattle.machine.specs.declared.Run.{Run}
@@ -35,11 +36,12 @@ use Rattle.record.specs.declared.CpuOperation.{CpuOperation}
 use Rattle.record.specs.declared.ThreadOperation.{ThreadOperation}
 use Rattle.record.specs.declared.Operation.{Operation}
 use Rattle.rules.specs.Rules as Rules
-use Rattle.operations.specs.Cells.{machineStore}
-use Rattle.operations.specs.Operations.{one, two, withHold, onCpu, onLock, onThread, operationBy}
+use Rattle.operations.specs.Cells.{lock, machineStore, everyLock}
+use Rattle.operations.specs.Operations.{one, two, withHold, withLocks, onCpu, onLock, onThread, operationBy}
 use Rattle.operations.specs.Asked.{answered}
 use Rattle.operations.specs.Log.{recordAt, stateAt, answerAt}
 use Rattle.operations.proofs.Turns.{ipi-says}
+use Rattle.operations.proofs.Unwound.{unwindAt, unwind-fed}
 use Rattle.runner.specs.Run.{ran, ranRoom}
 use Rattle.rearranged.proofs.Bytes.{place-of-run}
 use Rattle.ledger.specs.Ledger.{acceptedAt}
@@ -151,6 +153,11 @@ owner-coded : (k : Lock) → Coded (Rules.owner k)
 unfolding Rules.owner
 owner-coded k = is-code Code.Ok
 
+-- Operation 12.
+unwind-coded : (s : Setup) (c t : ℕ) (r : Run) (h : ℕ) (locks : List Lock) → CodedOutcome (Rules.unwind s c t r h locks)
+unfolding Rules.unwind
+unwind-coded s c t r h locks = either CodedOutcome (not (isCurrent (r .current) t)) _ _ (is-code Code.Eperm) (is-code Code.Ok)
+
 -- An operation answers what its rule answers.
 one-coded : {W : Type 0} (o : Outcome (Answer ℕ) W) → CodedOutcome o → CodedOutcome (one o)
 one-coded (refuse a) h = h
@@ -163,6 +170,10 @@ two-coded (accept a w) h = h
 hold-coded : (op : LockOperation) (h : ℕ) (o : Outcome (Answer ℕ) Lock) → CodedOutcome o → CodedOutcome (withHold op h o)
 hold-coded op h (refuse a) c = c
 hold-coded op h (accept a k) c = c
+
+locks-coded : (o : Outcome (Answer ℕ) (ℕ × List Lock)) → CodedOutcome o → CodedOutcome (withLocks o)
+locks-coded (refuse a) c = c
+locks-coded (accept a v) c = c
 
 module _ (m : Machine) where
   -- The run cell of a CPU.
@@ -195,6 +206,10 @@ module _ (m : Machine) where
   operation-coded (Operation.OnThread op) c t l = thread-request op c t
   operation-coded Operation.Ipi c t l = rw (ipi-says m (m .setup) c t l) (ipi-coded (m .setup) c (Rules.runsOf cpuSlots (m .cpus)) (threadAt m t))
   operation-coded Operation.Owner c t l = owner-coded (lockAt m l)
+  operation-coded Operation.Unwind c t l =
+      let locks = values machineStore lock (λ _ x. x) m lockCount in
+      subst (λ (o : Outcome (Answer ℕ) (ℕ × Vals machineStore (everyLock []))). CodedOutcome o) (sym (unwind-fed m (m .setup) c t))
+      (locks-coded (unwindAt m (m .setup) c t locks) (unwind-coded (m .setup) c t (runOf c) (cpuAt m c .hold) locks))
 
   -- Every answer has one of the seven codes.
   pub answered-coded : (bytes : List ℕ) → IsCode (answered m bytes .code)

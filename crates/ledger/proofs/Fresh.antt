@@ -24,6 +24,7 @@ use Rattle.operations.proofs.Lengths.{fresh-lengths}
 use Rattle.kept.proofs.Laws.{states-keep}
 use Rattle.ledger.specs.Ledger.{Book, ofLock, ofCpu, emptyStand, acquires, releases, balance, InBooks, freshOf}
 use Rattle.ledger.proofs.Answers.{bytes-tell}
+use Rattle.ledger.proofs.Stands.{Stands}
 use Rattle.ledger.proofs.Laws.{records-books}
 
 -- A fresh machine is well-formed, and its books are at 0.
@@ -48,6 +49,13 @@ unfolding freshMachine
 fresh-balance s (ofLock l) b = ap (λ (x : Lock). x .state .«nest_count») (getD-replicate lockCount l freeLock freeLock b)
 fresh-balance s (ofCpu c) b = ap (λ (x : Cpu). x .hold) (getD-replicate cpuSlots c freshCpu noCpu b)
 
+-- An empty book is its own.
+fresh-stands : (s : Setup) (book : Book) → InBooks book → Stands (freshOf s) book emptyStand
+unfolding freshMachine
+fresh-stands s (ofLock l) b =
+    let none = fresh-balance s (ofLock l) b in record { total = rw none; last = λ deep. absurd (omega (arith, none)) }
+fresh-stands s (ofCpu c) b = record { total = rw (fresh-balance s (ofCpu c) b); last = tt }
+
 -- After the first k records: a lock's depth and the accepted releases of it are together the accepted acquires of it, and a CPU's hold and the
 -- accepted releases by it are together the accepted acquires by it.
 pub ledger : (s : Setup) → 1 ≤ s .n → s .n ≤ cpuSlots → (log room : List ℕ)
@@ -57,7 +65,7 @@ pub ledger : (s : Setup) → 1 ≤ s .n → s .n ≤ cpuSlots → (log room : Li
 unfolding freshMachine
 ledger s some few log room ok k h book b =
     records-books (freshOf s) (fresh-lengths s) (fresh-formed s some few) log (ranRoom (freshOf s) log room) (length log / 12)
-    (bytes-tell (freshOf s) log room ok) k h book b emptyStand (rw (fresh-balance s book b))
+    (bytes-tell (freshOf s) log room ok) k h book b emptyStand (fresh-stands s book b) .total
 
 -- At the end, of the machine that the run hands back.
 run-end : (m : Machine) (log : List ℕ) (room : ℕ) → isOK (ran m log room .code) ≡ true → ran m log room .value ≡ stateAt m log (length log / 12)

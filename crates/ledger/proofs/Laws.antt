@@ -4,7 +4,6 @@ use mathlib.Core.Path.{_≡_, refl, ap, _∙_}
 use mathlib.Core.Bool.{true}
 use mathlib.Core.List.{List}
 use Prim.Native.Nat.{ℕ, zero, suc, _/_, _≤_, _<_}
-use native.Mathlib.Nat.{add-zero}
 use native.Mathlib.Omega.{arith}
 use lib.ListN.{length}
 use Rattle.error.specs.Codes.{isOK}
@@ -20,8 +19,9 @@ use Rattle.runner.specs.Run.{ran, ranRoom}
 use Rattle.operations.proofs.Lengths.{Lengths}
 use Rattle.kept.proofs.Laws.{states-keep}
 use Rattle.rearranged.proofs.MachineStore.{Shape, shape, machine-laws}
-use Rattle.ledger.specs.Ledger.{Book, acceptedAt, Stand, standAfter, balance, Balanced, openingOf, InBooks}
+use Rattle.ledger.specs.Ledger.{Book, acceptedAt, Stand, standAfter, Balanced, openingOf, InBooks}
 use Rattle.ledger.proofs.Answers.{bytes-tell}
+use Rattle.ledger.proofs.Stands.{Stands, opening-stands}
 use Rattle.ledger.proofs.Records.{record-books}
 
 -- The setup stays.
@@ -36,11 +36,11 @@ states-setup m log (suc k) =
 abbrev pub Tell : Machine → List ℕ → List ℕ → ℕ → Type 0
 Tell m log answers count = (k : ℕ) → k < count → acceptedAt answers k ≡ isOK (answerAt m log k .code)
 
--- Where they do, the books are kept from record to record: a stand that balances at the start goes on to balance. This is so of a log of any
+-- Where they do, the books are kept from record to record: a stand that is the machine's at the start goes on to be. This is so of a log of any
 -- length, also of one that is too long to run.
 pub records-books : (m : Machine) → Lengths m → wellFormed m ≡ true → (log answers : List ℕ) (count : ℕ) → Tell m log answers count
-    → (k : ℕ) → k ≤ count → (book : Book) → InBooks book → (opening : Stand) → Balanced m book opening
-    → Balanced (stateAt m log k) book (standAfter book (m .setup) log answers opening k)
+    → (k : ℕ) → k ≤ count → (book : Book) → InBooks book → (opening : Stand) → Stands m book opening
+    → Stands (stateAt m log k) book (standAfter book (m .setup) log answers opening k)
 unfolding stateAt standAfter
 records-books m s good log answers count tell zero h book b opening start = start
 records-books m s good log answers count tell (suc k) h book b opening start =
@@ -55,4 +55,5 @@ pub ledger-from : (m : Machine) → Lengths m → wellFormed m ≡ true → (log
     → (k : ℕ) → k ≤ length log / 12 → (book : Book) → InBooks book
     → Balanced (stateAt m log k) book (standAfter book (m .setup) log (ranRoom m log room) (openingOf m book) k)
 ledger-from m s good log room ok k h book b =
-    records-books m s good log (ranRoom m log room) (length log / 12) (bytes-tell m log room ok) k h book b (openingOf m book) (add-zero (balance m book))
+    records-books m s good log (ranRoom m log room) (length log / 12) (bytes-tell m log room ok) k h book b (openingOf m book)
+    (opening-stands m (says m good) book b) .total

@@ -1,5 +1,5 @@
--- Each record keeps the books: an accepted acquire or release moves its lock's depth and its CPU's hold by one, and everything else leaves
--- them. By the operation's family. Assumes nothing.
+-- Each record keeps the books: an accepted acquire or release moves its lock's depth and its CPU's hold by one, an unwind closes books
+-- (Unwinds), and everything else leaves them. By the operation's family. Assumes nothing.
 use mathlib.Core.Path.{_≡_, refl, ap, sym, _∙_}
 use mathlib.Core.Logic.{_≢_}
 use mathlib.Core.Bool.{Bool, true, false}
@@ -15,7 +15,8 @@ use Rattle.order.specs.Outcome.{Outcome, refuse, accept, answerOf}
 use Rattle.order.specs.Cells.{Op, commit, after, reply}
 use Rattle.order.specs.Clash.{In, here, there}
 use Rattle.order.proofs.Commute.{after-other}
-use Rattle.machine.specs.State.{cpuSlots, lockCount, cpuAt, lockAt}
+use Rattle.words.specs.Tag.{cpuOf}
+use Rattle.machine.specs.State.{cpuSlots, lockCount, tagBits, cpuAt, lockAt}
 use Rattle.machine.specs.declared.Setup.{Setup}
 use Rattle.machine.specs.declared.Cpu.{Cpu}
 use Rattle.machine.specs.declared.Lock.{Lock}
@@ -46,6 +47,8 @@ use Rattle.ledger.specs.Ledger.{
   mine,
   up,
   down,
+  from,
+  lastBy,
   Stand,
   posted,
   settled,
@@ -55,25 +58,29 @@ use Rattle.ledger.specs.Ledger.{
 }
 use Rattle.kept.proofs.Walk.{Told}
 use Rattle.ledger.proofs.Moves.{Moves, lock-told}
+use Rattle.ledger.proofs.Stands.{LastIs, Stands, Kept}
+use Rattle.ledger.proofs.Unwinds.{unwind-books}
 
 -- The cell in which a book's balance stands.
 abbrev cellOf : Book → Cell
 cellOf (ofLock l) = lock l
 cellOf (ofCpu c) = hold c
 
--- One record keeps the books: a stand that balances goes on to balance.
-abbrev Kept : Machine → Machine → Bool → Call → Type 0
-Kept m then accepted call =
-    (book : Book) → InBooks book → (stand : Stand) → Balanced m book stand → Balanced then book (settled book accepted call stand)
-
 abbrev doing : Machine → Op machineStore (Answer ℕ) → Machine
 doing m o = after machineStore (Answer ℕ) m o
 
--- An operation that does not write the cell leaves the balance.
-balance-same : (m : Machine) (o : Op machineStore (Answer ℕ)) (book : Book) → ¬ (In (cellOf book) (o .writes)) → balance (doing m o) book ≡ balance m book
-balance-same m o (ofLock l) out =
-    ap {A = Lock} (λ k. k .state .«nest_count») (after-other machineStore (Answer ℕ) Shape shape machine-laws (lock l) o m out)
-balance-same m o (ofCpu c) out = after-other machineStore (Answer ℕ) Shape shape machine-laws (hold c) o m out
+-- An operation that does not write the cell leaves the stand.
+stays : (m : Machine) (o : Op machineStore (Answer ℕ)) (book : Book) → ¬ (In (cellOf book) (o .writes)) → (stand : Stand) → Stands m book stand
+    → Stands (doing m o) book stand
+stays m o (ofLock l) out stand is =
+    let same : lockAt (doing m o) l ≡ lockAt m l = after-other machineStore (Answer ℕ) Shape shape machine-laws (lock l) o m out in
+    record {
+      total = ap (λ (x : Lock). x .state .«nest_count» + stand .releases) same ∙ is .total;
+      last = λ deep. is .last (rw same at deep) ∙ ap (λ (x : Lock). from (cpuOf (tagBits (m .setup)) (x .word))) (sym same);
+    }
+stays m o (ofCpu c) out stand is =
+    let same : cpuAt (doing m o) c .hold ≡ cpuAt m c .hold = after-other machineStore (Answer ℕ) Shape shape machine-laws (hold c) o m out in
+    record { total = ap (λ (h : ℕ). h + stand .releases) same ∙ is .total; last = tt }
 
 -- No book stands in a run cell or a thread.
 not-run : (book : Book) (c : ℕ) → cellOf book ≢ run c
@@ -104,7 +111,7 @@ not-posted book false stand = refl
 aside : (m : Machine) (o : Op machineStore (Answer ℕ)) → ((book : Book) → ¬ (In (cellOf book) (o .writes)))
     → Kept m (doing m o) (isOK (reply machineStore (Answer ℕ) m o .code)) other
 aside m o out book b stand before =
-    rw (not-posted book (isOK (reply machineStore (Answer ℕ) m o .code)) stand, balance-same m o book (out book)) before
+    rw (not-posted book (isOK (reply machineStore (Answer ℕ) m o .code)) stand) (stays m o book (out book) stand before)
 
 -- A call of lock k by CPU c keeps the books.
 module _ (m : Machine) (s : Lengths m) (op : LockOperation) (c k : ℕ) (hc : c < cpuSlots) (hk : k < lockCount) where
@@ -121,30 +128,54 @@ module _ (m : Machine) (s : Lengths m) (op : LockOperation) (c k : ℕ) (hc : c 
       → Balanced later book (posted book (called (kindOf op) c k) stand)
   stays-with book later stand others same before = rw (others, same) before
 
-  posted-kept : (book : Book) (v : Lock) (a : Answer ℕ) → Moves m op c k v → (stand : Stand) → Balanced m book stand
-      → Balanced (stored (accept a v)) book (posted book (called (kindOf op) c k) stand)
+  -- The lock that is called: its depth moves, and who acquired last is told on.
+  called-lock : (v : Lock) (a : Answer ℕ) → Moves m op c k v → (stand : Stand) → Stands m (ofLock k) stand
+      → Stands (stored (accept a v)) (ofLock k) (posted (ofLock k) (called (kindOf op) c k) stand)
+  called-lock v a moves stand is =
+      let here : lockAt (stored (accept a v)) k ≡ v = lock-there m s k v hk in
+      let own = eq-eqb k k refl in
+      record {
+        total = moved-with (ofLock k) (stored (accept a v)) stand own
+            (ap (λ (x : Lock). x .state .«nest_count» + down (kindOf op)) here ∙ moves .depth) (is .total);
+        last = λ deep.
+            rw own (moves .last (stand .by) (is .last) (rw here at deep))
+            ∙ ap (λ (x : Lock). from (cpuOf (tagBits (m .setup)) (x .word))) (sym here);
+      }
+
+  other-lock : (l : ℕ) (v : Lock) (a : Answer ℕ) → (l ≡ k → ⊥) → (stand : Stand) → Stands m (ofLock l) stand
+      → Stands (stored (accept a v)) (ofLock l) (posted (ofLock l) (called (kindOf op) c k) stand)
+  other-lock l v a differs stand is =
+      let same : lockAt (stored (accept a v)) l ≡ lockAt m l = lock-elsewhere m k v l differs in
+      rw (ne-eqb k l (λ e. differs (sym e)))
+      (record {
+        total = ap (λ (x : Lock). x .state .«nest_count» + stand .releases) same ∙ is .total;
+        last = λ deep. is .last (rw same at deep) ∙ ap (λ (x : Lock). from (cpuOf (tagBits (m .setup)) (x .word))) (sym same);
+      })
+
+  posted-kept : (book : Book) (v : Lock) (a : Answer ℕ) → Moves m op c k v → (stand : Stand) → Stands m book stand
+      → Stands (stored (accept a v)) book (posted book (called (kindOf op) c k) stand)
   posted-kept (ofLock l) v a moves stand before = go (ℕ-discrete l k)
     where
-      go : Dec (l ≡ k) → Balanced (stored (accept a v)) (ofLock l) (posted (ofLock l) (called (kindOf op) c k) stand)
-      go (yes e) =
-          let now : balance (stored (accept a v)) (ofLock l) ≡ v .state .«nest_count» =
-          rw e (ap (λ (x : Lock). x .state .«nest_count») (lock-there m s k v hk)) in
-          moved-with (ofLock l) (stored (accept a v)) stand (eq-eqb k l (sym e))
-          (ap (λ n. n + down (kindOf op)) now ∙ moves .depth ∙ ap (λ i. lockAt m i .state .«nest_count» + up (kindOf op)) (sym e)) before
-      go (no differs) =
-          stays-with (ofLock l) (stored (accept a v)) stand (ne-eqb k l (λ e. differs (sym e)))
-          (ap (λ (x : Lock). x .state .«nest_count») (lock-elsewhere m k v l differs)) before
+      go : Dec (l ≡ k) → Stands (stored (accept a v)) (ofLock l) (posted (ofLock l) (called (kindOf op) c k) stand)
+      go (yes e) = rw e (called-lock v a moves stand (rw e at before))
+      go (no differs) = other-lock l v a differs stand before
   posted-kept (ofCpu d) v a moves stand before = go (ℕ-discrete d c)
     where
-      go : Dec (d ≡ c) → Balanced (stored (accept a v)) (ofCpu d) (posted (ofCpu d) (called (kindOf op) c k) stand)
+      go : Dec (d ≡ c) → Stands (stored (accept a v)) (ofCpu d) (posted (ofCpu d) (called (kindOf op) c k) stand)
       go (yes e) =
           let now : balance (stored (accept a v)) (ofCpu d) ≡ Rules.moved op (cpuAt m c .hold) =
           rw e (ap (λ (x : Cpu). x .hold) (cpu-there m s c _ hc)) in
-          moved-with (ofCpu d) (stored (accept a v)) stand (eq-eqb c d (sym e))
-          (ap (λ n. n + down (kindOf op)) now ∙ moves .hold ∙ ap (λ i. cpuAt m i .hold + up (kindOf op)) (sym e)) before
+          record {
+            total = moved-with (ofCpu d) (stored (accept a v)) stand (eq-eqb c d (sym e))
+                (ap (λ n. n + down (kindOf op)) now ∙ moves .hold ∙ ap (λ i. cpuAt m i .hold + up (kindOf op)) (sym e)) (before .total);
+            last = tt;
+          }
       go (no differs) =
-          stays-with (ofCpu d) (stored (accept a v)) stand (ne-eqb c d (λ e. differs (sym e)))
-          (ap (λ (x : Cpu). x .hold) (cpu-elsewhere m c _ d differs)) before
+          record {
+            total = stays-with (ofCpu d) (stored (accept a v)) stand (ne-eqb c d (λ e. differs (sym e)))
+                (ap (λ (x : Cpu). x .hold) (cpu-elsewhere m c _ d differs)) (before .total);
+            last = tt;
+          }
 
   call-kept : (o : Outcome (Answer ℕ) Lock) → Told (Moves m op c k) o
       → Kept m (stored o) (isOK (answerOf (withHold op (cpuAt m c .hold) o) .code)) (called (kindOf op) c k)
@@ -180,6 +211,7 @@ module _ (m : Machine) (s : Lengths m) (w : WellFormed m) where
   books (Operation.OnThread op) c t l hc hl = aside m (onThread (m .setup) op c t) (thread-outside (m .setup) op c t)
   books Operation.Ipi c t l hc hl = aside m (operationBy (m .setup) Operation.Ipi c t l) (λ book. no-cell)
   books Operation.Owner c t l hc hl = aside m (operationBy (m .setup) Operation.Owner c t l) (λ book. no-cell)
+  books Operation.Unwind c t l hc hl = unwind-books m s w c t hc
 
   pub record-books : (bytes : List ℕ) → Kept m (next m bytes) (isOK (answered m bytes .code)) (callOf (requestOf (m .setup) bytes))
   unfolding next answered

@@ -19,6 +19,7 @@ ghost use Rattle.machine.specs.State.{
   setup as State·setup,
 };
 use error::Code;
+use spinlock::Owner;
 use spinlock::SpinlockState;
 
 // How many CPU slots, threads and locks a machine has.
@@ -127,6 +128,16 @@ pub struct Lock {
     pub word: u64,
 }
 
+// A free lock, whose word names nobody.
+pub const FREE_LOCK: Lock = Lock {
+    state: SpinlockState {
+        owner: Owner::None,
+        nest_count: 0,
+        irq_saved: false,
+    },
+    word: 0,
+};
+
 pub struct Machine {
     pub setup: Setup,
     pub cpus: [Cpu; CPU_SLOTS],
@@ -165,9 +176,7 @@ fn fresh_machine(setup: Setup) -> Machine
         place: Place::Nowhere,
     };
     let threads = [thread; THREADS];
-    let state = SpinlockState::new();
-    let lock = Lock { state, word: 0 };
-    let locks = [lock; LOCKS];
+    let locks = [FREE_LOCK; LOCKS];
     Machine {
         setup,
         cpus,

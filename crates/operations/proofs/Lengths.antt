@@ -2,7 +2,7 @@
 -- Assumes nothing.
 use mathlib.Core.Path.{_≡_, refl, _∙_}
 use mathlib.Core.List.{List, [], _∷_}
-use Prim.Native.Nat.{ℕ}
+use Prim.Native.Nat.{ℕ, zero, suc}
 use lib.ListN.{length, length-set}
 use Rattle.error.specs.Answer.{Answer}
 use Rattle.order.specs.Outcome.{Outcome, refuse, accept}
@@ -12,6 +12,7 @@ use Rattle.machine.specs.declared.Setup.{Setup}
 use Rattle.machine.specs.declared.Machine.{Machine}
 use Rattle.operations.specs.Cells.{Cell, run, hold, thread, lock, Val, put, machineStore}
 use Rattle.operations.specs.Asked.{asked, next}
+use Rattle.operations.specs.Log.{recordAt, stateAt}
 
 -- 4 CPUs, 32 threads and 128 locks.
 pub record Lengths (m : Machine) : Type 0 where
@@ -47,3 +48,9 @@ after-lengths m o s = commit-lengths (o .writes) (result machineStore (Answer �
 pub next-lengths : (m : Machine) (bytes : List ℕ) → Lengths m → Lengths (next m bytes)
 unfolding next
 next-lengths m bytes s = after-lengths m (asked m bytes) s
+
+-- So they are kept by the first k records of a log.
+pub state-lengths : (m : Machine) (log : List ℕ) (k : ℕ) → Lengths m → Lengths (stateAt m log k)
+unfolding stateAt
+state-lengths m log zero s = s
+state-lengths m log (suc k) s = next-lengths (stateAt m log k) (recordAt log k) (state-lengths m log k s)

@@ -1,3 +1,5 @@
+pub mod EveryLock
+pub mod Unwound
 pub mod Turns
 pub mod Setups
 pub mod Refused

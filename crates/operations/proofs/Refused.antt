@@ -27,9 +27,10 @@ use Rattle.record.specs.declared.ThreadOperation.{ThreadOperation}
 use Rattle.record.specs.declared.Operation.{Operation}
 use Rattle.rules.specs.Rules as Rules
 use Rattle.operations.specs.Cells.{Cell, machineStore}
-use Rattle.operations.specs.Operations.{one, two, withHold, onCpu, onLock, onThread, operationBy}
+use Rattle.operations.specs.Operations.{one, two, withHold, withLocks, onCpu, onLock, onThread, unwinding, operationBy}
 use Rattle.operations.specs.Asked.{answered, next}
 use Rattle.operations.proofs.Turns.{writes-none}
+use Rattle.operations.proofs.Unwound.{unwind-fed}
 
 -- An outcome that is accepted has the code OK.
 record DoneIsOK {W : Type 0} (o : Outcome (Answer ℕ) W) : Type 0 where
@@ -58,6 +59,10 @@ of-two (accept a w) p = record { code = p .code }
 of-hold : (op : LockOperation) (h : ℕ) (o : Outcome (Answer ℕ) Lock) → DoneIsOK o → DoneIsOK (withHold op h o)
 of-hold op h (refuse a) p = refusal
 of-hold op h (accept a w) p = record { code = p .code }
+
+of-locks : (o : Outcome (Answer ℕ) (ℕ × List Lock)) → DoneIsOK o → DoneIsOK (withLocks o)
+of-locks (refuse a) p = refusal
+of-locks (accept a w) p = record { code = p .code }
 
 -- The rules.
 up-done : (r : Run) → DoneIsOK (Rules.up r)
@@ -100,6 +105,10 @@ priority-done : (a : ℤ) (k : Thread) → DoneIsOK (Rules.priority a k)
 unfolding Rules.priority
 priority-done a k = either (Rules.placed (k .place)) refusal finished
 
+unwind-done : (s : Setup) (c t : ℕ) (r : Run) (h : ℕ) (locks : List Lock) → DoneIsOK (Rules.unwind s c t r h locks)
+unfolding Rules.unwind
+unwind-done s c t r h locks = either (not (isCurrent (r .current) t)) refusal finished
+
 -- An operation of which that holds, and is refused, leaves the machine.
 module _ (m : Machine) where
   left : (cs : List Cell) (o : Outcome (Answer ℕ) (Vals machineStore cs)) → DoneIsOK o → isOK (answerOf o .code) ≡ false
@@ -139,6 +148,8 @@ module _ (m : Machine) where
   leaves s (Operation.OnThread op) c t l = thread-leaves s op c t
   leaves s Operation.Ipi c t l = λ _. writes-none m (result machineStore (Answer ℕ) (operationBy s Operation.Ipi c t l) m)
   leaves s Operation.Owner c t l = λ _. refl
+  leaves s Operation.Unwind c t l =
+      leaves-by (unwinding s c t) (rw (unwind-fed m s c t) (of-locks _ (unwind-done s c t (cpuAt m c .run) (cpuAt m c .hold) _)))
 
   pub record-refused : (bytes : List ℕ) → isOK (answered m bytes .code) ≡ false → next m bytes ≡ m
   unfolding answered next

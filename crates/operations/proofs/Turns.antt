@@ -1,17 +1,18 @@
 -- Storing what the code loaded and its rule gave back is the operation: what a request does not name is stored as it was, which changes
 -- nothing. A law for each family. Assumes nothing.
 use mathlib.Core.Path.{_≡_, refl, sym, ap, _∙_}
-use mathlib.Core.List.{List, [], _∷_, _++_}
+use mathlib.Core.Bool.{Bool, true, false, false≢true}
+use mathlib.Core.List.{List, [], _∷_, _++_, map}
 use Prim.Native.Nat.{ℕ, zero, suc}
-use lib.ListN.{set}
+use lib.ListN.{length, set}
 use lib.Seq.{set-getD}
-use Rattle.error.specs.Codes.{EINVAL}
+use Rattle.error.specs.Codes.{OK, EPERM, EINVAL, isOK}
 use Rattle.error.specs.Answer.{Answer, answer}
 use Rattle.order.specs.Outcome.{Outcome, refuse, accept, answerOf, cellsAfter}
 use Rattle.order.specs.Cells.{Op, result, commit, after, reply}
 use Rattle.order.proofs.Every.{values, feed-gather}
 use Rattle.spinlock.specs.declared.Operation.{Operation as LockOperation}
-use Rattle.machine.specs.State.{cpuSlots, noCpu, noThread, freeLock, cpuAt, threadAt, lockAt}
+use Rattle.machine.specs.State.{cpuSlots, lockCount, isCurrent, noCpu, noThread, freeLock, cpuAt, threadAt, lockAt}
 use Rattle.machine.specs.declared.Setup.{Setup}
 use Rattle.machine.specs.declared.Run.{Run}
 use Rattle.machine.specs.declared.Cpu.{Cpu}
@@ -24,9 +25,11 @@ use Rattle.record.specs.declared.ThreadOperation.{ThreadOperation}
 use Rattle.record.specs.declared.Operation.{Operation}
 use Rattle.record.specs.declared.Request.{Request}
 use Rattle.rules.specs.Rules as Rules
-use Rattle.operations.specs.Cells.{run, hold, thread, lock, setThread, machineStore}
+use Rattle.operations.specs.Cells.{run, hold, thread, lock, setCpu, setThread, machineStore}
 use Rattle.operations.specs.Operations.{one, two, none, withHold, onCpu, onLock, onThread, operationBy, operation}
 use Rattle.operations.specs.Asked.{answered, next}
+use Rattle.operations.proofs.EveryLock.{setLocks}
+use Rattle.operations.proofs.Unwound.{unwoundMachine, refused-reply, refused-after, accepted-reply, accepted-after}
 
 -- A CPU and a lock are stored, or a CPU and a thread.
 abbrev pub storedLock : Machine → ℕ → ℕ → Cpu × Lock → Machine
@@ -180,3 +183,36 @@ module _ (m : Machine) (bytes : List ℕ) where
 
     pub owner-turned : r .operation ≡ Operation.Owner → (a : Answer ℕ) → a ≡ Rules.owner (lockAt m (r .lock .0)) → Becomes a m
     owner-turned e a is = rw is (becomes e (refl, refl))
+
+    -- An unwind, on a machine with 128 locks: if its answer is OK every lock is given back, else none is looked at.
+    module _ (e : r .operation ≡ Operation.Unwind) (all : length (m .locks) ≡ lockCount) (o : Answer ℕ × Cpu)
+        (is : o ≡ Rules.unwound (r .thread .0) (cpuAt m (r .cpu .0))) where
+      abbrev runs : Bool
+      runs = isCurrent (cpuAt m (r .cpu .0) .run .current) (r .thread .0)
+
+      done : runs ≡ true → o ≡ (answer OK (cpuAt m (r .cpu .0) .hold), record { run = cpuAt m (r .cpu .0) .run; hold = 0 })
+      unfolding Rules.unwound
+      done now = is ∙ rw now
+
+      denied : runs ≡ false → o ≡ (answer EPERM 0, cpuAt m (r .cpu .0))
+      unfolding Rules.unwound
+      denied now = is ∙ rw now
+
+      pub unwind-turned : isOK (o .0 .code) ≡ true → (locks : List Lock) → locks ≡ map (Rules.givenBack (m .setup) (r .cpu .0)) (m .locks)
+          → Becomes (o .0) (setLocks (setCpu m (r .cpu .0) (o .1)) locks)
+      unwind-turned ok locks gives = go runs refl
+        where
+          go : (b : Bool) → runs ≡ b → Becomes (o .0) (setLocks (setCpu m (r .cpu .0) (o .1)) locks)
+          go true now =
+              rw (done now, gives)
+              (becomes e (sym (accepted-reply m (r .cpu .0) (r .thread .0) all now), sym (accepted-after m (r .cpu .0) (r .thread .0) all now)))
+          go false now = absurd (false≢true (ap (λ (x : Answer ℕ × Cpu). isOK (x .0 .code)) (sym (denied now)) ∙ ok))
+
+      pub unwind-denied : isOK (o .0 .code) ≡ false → Becomes (o .0) (setCpu m (r .cpu .0) (o .1))
+      unwind-denied no-ok = go runs refl
+        where
+          go : (b : Bool) → runs ≡ b → Becomes (o .0) (setCpu m (r .cpu .0) (o .1))
+          go true now = absurd (false≢true (sym no-ok ∙ ap (λ (x : Answer ℕ × Cpu). isOK (x .0 .code)) (done now)))
+          go false now =
+              rw (denied now, same-cpu m (r .cpu .0))
+              (becomes e (sym (refused-reply m (r .cpu .0) (r .thread .0) all now), sym (refused-after m (r .cpu .0) (r .thread .0) all now)))

@@ -2,9 +2,9 @@
 use Prim.Native.Nat.{ℕ}
 use mathlib.Core.List.{List, _++_}
 use lib.ListN.{set}
-use Rattle.order.specs.Cells.{Store, Fn}
-use Rattle.order.specs.Every.{every, gather}
-use Rattle.machine.specs.State.{cpuSlots, cpuAt, threadAt, lockAt}
+use Rattle.order.specs.Cells.{Store, Fn, Vals}
+use Rattle.order.specs.Every.{every, gather, collect, spread}
+use Rattle.machine.specs.State.{cpuSlots, lockCount, freeLock, cpuAt, threadAt, lockAt}
 use Rattle.machine.specs.declared.Run.{Run}
 use Rattle.machine.specs.declared.Cpu.{Cpu}
 use Rattle.machine.specs.declared.Thread.{Thread}
@@ -57,3 +57,15 @@ everyRun rest = every machineStore run cpuSlots rest
 -- A function of every run cell's value, CPU 0's first, and of the values of the rest and of more cells.
 abbrev pub ofRuns : (X : Type 0) (rest more : List Cell) → (List Run → Fn machineStore (rest ++ more) X) → Fn machineStore (everyRun rest ++ more) X
 ofRuns X rest more f = gather machineStore X run (λ _ r. r) cpuSlots rest more f
+
+-- Every lock, and then the rest.
+abbrev pub everyLock : List Cell → List Cell
+everyLock rest = every machineStore lock lockCount rest
+
+-- A function of every lock, lock 0 first, and of the values of the rest.
+abbrev pub ofLocks : (X : Type 0) (rest : List Cell) → (List Lock → Fn machineStore rest X) → Fn machineStore (everyLock rest) X
+ofLocks X rest f = collect machineStore X lock (λ _ k. k) lockCount rest f
+
+-- These locks, lock 0 first, as new values for every lock, and then the values for the rest.
+abbrev pub asLocks : (rest : List Cell) → List Lock → Vals machineStore rest → Vals machineStore (everyLock rest)
+asLocks rest locks others = spread machineStore lock (λ _ k. k) freeLock lockCount rest locks others

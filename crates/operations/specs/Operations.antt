@@ -1,11 +1,11 @@
--- 01, "Log records", the column "reads; writes": each request as an operation on its cells. A written cell counts as read too. A record that
--- fails the form test is EINVAL, value 0, and touches no cell.
+-- 01, "Log records", the column "reads; writes", and 02, request 1: each request as an operation on its cells. A written cell counts as read too.
+-- A record that fails the form test is EINVAL, value 0, and touches no cell.
 use Prim.Native.Nat.{ℕ}
-use mathlib.Core.List.{[], _∷_}
+use mathlib.Core.List.{List, [], _∷_}
 use Rattle.error.specs.Codes.{EINVAL}
 use Rattle.error.specs.Answer.{Answer, answer}
 use Rattle.order.specs.Outcome.{Outcome, refuse, accept}
-use Rattle.order.specs.Cells.{Op}
+use Rattle.order.specs.Cells.{Op, Vals}
 use Rattle.spinlock.specs.declared.Operation.{Operation as LockOperation}
 use Rattle.machine.specs.declared.Setup.{Setup}
 use Rattle.machine.specs.declared.Lock.{Lock}
@@ -14,7 +14,7 @@ use Rattle.record.specs.declared.ThreadOperation.{ThreadOperation}
 use Rattle.record.specs.declared.Operation.{Operation}
 use Rattle.record.specs.declared.Request.{Request}
 use Rattle.rules.specs.Rules as Rules
-use Rattle.operations.specs.Cells.{run, hold, thread, lock, machineStore, everyRun, ofRuns}
+use Rattle.operations.specs.Cells.{run, hold, thread, lock, machineStore, everyRun, ofRuns, everyLock, ofLocks, asLocks}
 
 -- One cell's new value, two cells', or none, as an operation hands them back.
 abbrev pub one : {A W : Type 0} → Outcome A W → Outcome A (W × Unit {0})
@@ -32,6 +32,11 @@ none a = accept a tt
 abbrev pub withHold : LockOperation → ℕ → Outcome (Answer ℕ) Lock → Outcome (Answer ℕ) (Lock × (ℕ × Unit {0}))
 withHold op h (refuse a) = refuse a
 withHold op h (accept a k) = accept a (k, (Rules.moved op h, tt))
+
+-- The hold and every lock after an unwind.
+abbrev pub withLocks : Outcome (Answer ℕ) (ℕ × List Lock) → Outcome (Answer ℕ) (ℕ × Vals machineStore (everyLock []))
+withLocks (refuse a) = refuse a
+withLocks (accept a v) = accept a (v .0, asLocks [] (v .1) tt)
 
 -- 0 to 3.
 abbrev pub onCpu : CpuOperation → ℕ → ℕ → Op machineStore (Answer ℕ)
@@ -52,6 +57,15 @@ onThread s (ThreadOperation.Mask enable disable) c t =
 onThread s ThreadOperation.Pin c t = record { reads = []; writes = thread t ∷ []; body = λ k. one (Rules.pin s c k) }
 onThread s (ThreadOperation.Priority a) c t = record { reads = []; writes = thread t ∷ []; body = λ k. one (Rules.priority a k) }
 
+-- 12: reads the run cell; writes the hold cell and every lock.
+abbrev pub unwinding : Setup → ℕ → ℕ → Op machineStore (Answer ℕ)
+unwinding s c t =
+    record {
+      reads = run c ∷ [];
+      writes = hold c ∷ everyLock [];
+      body = λ r h. ofLocks (Outcome (Answer ℕ) (ℕ × Vals machineStore (everyLock []))) [] (λ locks. withLocks (Rules.unwind s c t r h locks));
+    }
+
 -- The operation with the numbers of its CPU, thread and lock, on a machine of this setup.
 abbrev pub operationBy : Setup → Operation → ℕ → ℕ → ℕ → Op machineStore (Answer ℕ)
 operationBy s Operation.Malformed c t l = record { reads = []; writes = []; body = refuse (answer EINVAL 0) }
@@ -65,6 +79,7 @@ operationBy s Operation.Ipi c t l =
       body = ofRuns (Outcome (Answer ℕ) (Unit {0})) (thread t ∷ []) [] (λ runs k. none (Rules.ipi s c runs k));
     }
 operationBy s Operation.Owner c t l = record { reads = lock l ∷ []; writes = []; body = λ k. none (Rules.owner k) }
+operationBy s Operation.Unwind c t l = unwinding s c t
 
 -- The operation of a request.
 abbrev pub operation : Setup → Request → Op machineStore (Answer ℕ)

@@ -7,7 +7,7 @@ use native.Mathlib.Omega.{arith}
 use native.Mathlib.Decide.{ℕ-discrete}
 use Rattle.order.specs.Cells.{Store, Fn, feed}
 use Rattle.order.specs.Clash.{In, here, there}
-use Rattle.order.specs.Every.{every, gather}
+use Rattle.order.specs.Every.{every, gather, collect}
 
 module _ (𝒮 : Store) where
   open Store 𝒮 using (Cell, Val, M, get)
@@ -52,3 +52,12 @@ module _ (𝒮 : Store) where
   feed-gather X cell value zero rest more f m = refl
   feed-gather X cell value (suc k) rest more f m =
       feed-gather X cell value k rest more (λ vs. f (vs ++ (value k (get (cell k) m) ∷ []))) m
+
+  -- So is one where no more cells follow.
+  pub feed-collect : (X : Type 0) {Y : Type 0} (cell : ℕ → Cell) (value : (i : ℕ) → Val (cell i) → Y) (k : ℕ) (rest : List Cell)
+      (f : List Y → Fn 𝒮 rest X) (m : M)
+      → feed 𝒮 (every 𝒮 cell k rest) (collect 𝒮 X cell value k rest f) m ≡ feed 𝒮 rest (f (values cell value m k)) m
+  unfolding every collect values
+  feed-collect X cell value zero rest f m = refl
+  feed-collect X cell value (suc k) rest f m =
+      feed-collect X cell value k rest (λ vs. f (vs ++ (value k (get (cell k) m) ∷ []))) m

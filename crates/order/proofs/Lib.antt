@@ -3,3 +3,4 @@ pub mod Positions
 pub mod Sequence
 pub mod Commute
 pub mod Every
+pub mod Lists

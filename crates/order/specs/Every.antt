@@ -2,7 +2,8 @@
 -- proofs go by laws (proofs/Every.antt) and not by writing them out.
 use Prim.Native.Nat.{ℕ, zero, suc}
 use mathlib.Core.List.{List, [], _∷_, _++_}
-use Rattle.order.specs.Cells.{Store, Fn}
+use lib.ListN.{getD}
+use Rattle.order.specs.Cells.{Store, Fn, Vals}
 
 module _ (𝒮 : Store) where
   open Store 𝒮 using (Cell, Val)
@@ -18,3 +19,17 @@ module _ (𝒮 : Store) where
   unfolding every
   gather X cell value zero rest more f = f []
   gather X cell value (suc k) rest more f = λ v. gather X cell value k rest more (λ vs. f (vs ++ (value k v ∷ [])))
+
+  -- The same where no more cells follow the rest.
+  unfoldable pub collect : (X : Type 0) {Y : Type 0} (cell : ℕ → Cell) (value : (i : ℕ) → Val (cell i) → Y) (k : ℕ) (rest : List Cell)
+      → (List Y → Fn 𝒮 rest X) → Fn 𝒮 (every cell k rest) X
+  unfolding every
+  collect X cell value zero rest f = f []
+  collect X cell value (suc k) rest f = λ v. collect X cell value k rest (λ vs. f (vs ++ (value k v ∷ [])))
+
+  -- A list, the first one first, as new values for these cells, and then the values for the rest. (`none` stands past the end of the list.)
+  unfoldable pub spread : {Y : Type 0} (cell : ℕ → Cell) (value : (i : ℕ) → Y → Val (cell i)) (none : Y) (k : ℕ) (rest : List Cell)
+      → List Y → Vals 𝒮 rest → Vals 𝒮 (every cell k rest)
+  unfolding every
+  spread cell value none zero rest ys others = others
+  spread cell value none (suc k) rest ys others = (value k (getD ys k none), spread cell value none k rest ys others)

@@ -48,6 +48,7 @@ row-by s (Operation.OnLock op) c t l = lock-row s op c l
 row-by s (Operation.OnThread op) c t l = thread-row s op c t
 row-by s Operation.Ipi c t l = refl
 row-by s Operation.Owner c t l = refl
+row-by s Operation.Unwind c t l = refl
 
 pub row-is : (s : Setup) (r : Request) → cellsOf (operation s r) ≡ row r
 row-is s r = row-by s (r .operation) (r .cpu .0) (r .thread .0) (r .lock .0)

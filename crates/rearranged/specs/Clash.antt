@@ -1,4 +1,4 @@
--- 01, "Log records", the column "reads; writes", row by row.
+-- 01, "Log records", the column "reads; writes", row by row; and the row that 02 adds, request 1.
 use mathlib.Core.List.{List, [], _∷_}
 use Prim.Native.Nat.{ℕ}
 use Rattle.order.specs.Clash.{Footprint}
@@ -9,7 +9,7 @@ use Rattle.record.specs.declared.CpuOperation.{CpuOperation}
 use Rattle.record.specs.declared.ThreadOperation.{ThreadOperation}
 use Rattle.record.specs.declared.Operation.{Operation}
 use Rattle.record.specs.declared.Request.{Request}
-use Rattle.operations.specs.Cells.{Cell, run, hold, thread, lock, everyRun}
+use Rattle.operations.specs.Cells.{Cell, run, hold, thread, lock, everyRun, everyLock}
 
 -- The table, 0 to 3.
 abbrev pub rowOnCpu : CpuOperation → ℕ → ℕ → Footprint Cell
@@ -30,7 +30,7 @@ rowOnThread (ThreadOperation.Mask enable disable) t = record { reads = []; write
 rowOnThread ThreadOperation.Pin t = record { reads = []; writes = thread t ∷ [] }
 rowOnThread (ThreadOperation.Priority a) t = record { reads = []; writes = thread t ∷ [] }
 
--- The whole table, with 10 and 11. A record that fails the form test touches no cell.
+-- The whole table, with 10, 11 and 12. A record that fails the form test touches no cell.
 abbrev pub rowBy : Operation → ℕ → ℕ → ℕ → Footprint Cell
 rowBy Operation.Malformed c t l = record { reads = []; writes = [] }
 rowBy (Operation.OnCpu op) c t l = rowOnCpu op c t
@@ -38,6 +38,7 @@ rowBy (Operation.OnLock op) c t l = rowOnLock op c l
 rowBy (Operation.OnThread op) c t l = rowOnThread op t
 rowBy Operation.Ipi c t l = record { reads = everyRun (thread t ∷ []); writes = [] }
 rowBy Operation.Owner c t l = record { reads = lock l ∷ []; writes = [] }
+rowBy Operation.Unwind c t l = record { reads = run c ∷ []; writes = hold c ∷ everyLock [] }
 
 -- The row of a request, with the numbers of its CPU, thread and lock.
 abbrev pub row : Request → Footprint Cell

@@ -93,6 +93,7 @@ asks-back (Operation.OnThread (ThreadOperation.Priority p)) e =
     ap (λ (q : ℤ). Operation.OnThread (ThreadOperation.Priority q)) (to-from-signed 31 p (priority-fits p e))
 asks-back Operation.Ipi e = refl
 asks-back Operation.Owner e = refl
+asks-back Operation.Unwind e = refl
 
 -- A request in range comes back from its encoding.
 pub decode-encode : (k : Setup) (r : Request) → setupOk k ≡ true → InRange (k .n) r → requestOf k (encode r) ≡ r
@@ -129,7 +130,7 @@ module _ (a b : ℕ) (fitsA : a < 2 ^ 32) where
                   no-operands 5,
                   (
                     no-operands 6,
-                    ((λ e f x. refl), (no-operands 8, (one-priority, (no-operands 10, (no-operands 11, tt))))),
+                    ((λ e f x. refl), (no-operands 8, (one-priority, (no-operands 10, (no-operands 11, (no-operands 12, tt)))))),
                   ),
                 ),
               ),

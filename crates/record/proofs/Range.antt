@@ -139,6 +139,7 @@ priorityOk (Operation.OnThread ThreadOperation.Pin) = true
 priorityOk (Operation.OnThread (ThreadOperation.Priority p)) = isPriority p
 priorityOk Operation.Ipi = true
 priorityOk Operation.Owner = true
+priorityOk Operation.Unwind = true
 
 -- So it is for each row whose A passes the form test.
 pub row-priority : (a b op : ℕ) → operandOk (rowOf op .a) a ≡ true → priorityOk (rowOf op .asks a b) ≡ true
@@ -161,7 +162,7 @@ row-priority a b =
                     sets-none,
                     (
                       sets-none,
-                      ((λ e. e), (sets-none, (sets-none, tt))),
+                      ((λ e. e), (sets-none, (sets-none, (sets-none, tt)))),
                     ),
                   ),
                 ),

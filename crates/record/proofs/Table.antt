@@ -45,8 +45,8 @@ column-at bits f all op h = same-is (bit op bits) (f (rowOf op)) (all-at (λ op.
 
 -- The six columns.
 pub record Columns (op : ℕ) : Type 0 where
-  pub cpu : bit op 0x57f ≡ rowOf op .cpu
-  pub thread : bit op 0x78c ≡ rowOf op .thread
+  pub cpu : bit op 0x157f ≡ rowOf op .cpu
+  pub thread : bit op 0x178c ≡ rowOf op .thread
   pub lock : bit op 0x870 ≡ rowOf op .lock
   pub a-mask : bit op 0x080 ≡ takesMask (rowOf op .a)
   pub a-priority : bit op 0x200 ≡ takesPriority (rowOf op .a)
@@ -57,8 +57,8 @@ pub columns : (op : ℕ) → op < 16 → Columns op
 unfolding bit rowOf allBelow
 columns op h =
     record {
-      cpu = column-at 0x57f (λ r. r .cpu) refl op h;
-      thread = column-at 0x78c (λ r. r .thread) refl op h;
+      cpu = column-at 0x157f (λ r. r .cpu) refl op h;
+      thread = column-at 0x178c (λ r. r .thread) refl op h;
       lock = column-at 0x870 (λ r. r .lock) refl op h;
       a-mask = column-at 0x080 (λ r. takesMask (r .a)) refl op h;
       a-priority = column-at 0x200 (λ r. takesPriority (r .a)) refl op h;

@@ -48,7 +48,7 @@ pub record Row : Type 0 where
 abbrev row : Bool → Bool → Bool → Operand → Operand → (ℕ → ℕ → Operation) → Row
 row cpu thread lock a b asks = record { cpu = cpu; thread = thread; lock = lock; a = a; b = b; asks = asks }
 
--- The table's operations, 0 to 11.
+-- The table's operations, 0 to 11, and 12 of 02's first request.
 abbrev pub rows : List Row
 rows =
     row true false false none none (λ a b. Operation.OnCpu CpuOperation.Up)
@@ -63,6 +63,7 @@ rows =
     ∷ row false true false priority none (λ a b. Operation.OnThread (ThreadOperation.Priority (toSigned 31 a)))
     ∷ row true true false none none (λ a b. Operation.Ipi)
     ∷ row false false true none none (λ a b. Operation.Owner)
+    ∷ row true true false none none (λ a b. Operation.Unwind)
     ∷ []
 
 -- Past the table stands no operation.
@@ -149,6 +150,7 @@ wire (Operation.OnThread ThreadOperation.Pin) = (8, 0, 0)
 wire (Operation.OnThread (ThreadOperation.Priority p)) = (9, fromSigned 31 p, 0)
 wire Operation.Ipi = (10, 0, 0)
 wire Operation.Owner = (11, 0, 0)
+wire Operation.Unwind = (12, 0, 0)
 
 -- The one record that asks for a request.
 unfoldable pub encode : Request → List ℕ

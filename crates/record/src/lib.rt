@@ -52,6 +52,7 @@ pub enum Operation {
     OnThread(ThreadOperation),
     Ipi,
     Owner,
+    Unwind,
 }
 
 // An operation with the numbers that it uses. A number that it does not use is 0.
@@ -64,9 +65,9 @@ pub struct Request {
 
 // Which operations use which fields, a column of the table for each field: bit i stands for operation i. One rule ties the columns to the
 // rows of the table (proofs/Table.antt).
-const USES_CPU: u32 = 0x57f;
+const USES_CPU: u32 = 0x157f;
 
-const USES_THREAD: u32 = 0x78c;
+const USES_THREAD: u32 = 0x178c;
 
 const USES_LOCK: u32 = 0x870;
 
@@ -223,6 +224,7 @@ fn carried(n: u32, f: Fields) -> Request
         }
         10 => formed(n, 10, f, Operation::Ipi),
         11 => formed(n, 11, f, Operation::Owner),
+        12 => formed(n, 12, f, Operation::Unwind),
         _ => malformed(),
     }
 }

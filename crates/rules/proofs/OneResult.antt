@@ -1,5 +1,5 @@
--- What is said of this crate's results tells them apart, so each statement of cpu_rules, lock_rules and thread_rules allows one result. Assumes
--- nothing.
+-- What is said of this crate's results tells them apart, so each statement of cpu_rules, lock_rules, thread_rules and unwind_rules allows one
+-- result. Assumes nothing.
 use mathlib.Core.Path.{refl, ap, ap₂}
 use Prim.Native.Nat.{ℕ}
 use Rattle.error.specs.Answer.{Answer}
@@ -10,7 +10,7 @@ use Rattle.machine.specs.declared.Cpu.{Cpu}
 use Rattle.machine.specs.declared.Thread.{Thread}
 use Rattle.machine.specs.declared.Lock.{Lock}
 use Rattle.rules.specs.declared.Answered.{Answered}
-use Rattle.rules.specs.Rules.{answeredSays, runSays, seatSays, cpuSays, threadSays, lockSays}
+use Rattle.rules.specs.Rules.{answeredSays, runSays, seatSays, cpuSays, threadSays, lockSays, unwindSays}
 
 pub answered-apart : TellsApart answeredSays
 answered-apart = coded-apart (λ c v. record { code = c; value = v }) (λ a. a .code) (λ a. a .value) (λ a. refl)
@@ -39,3 +39,8 @@ pub lock-apart : TellsApart lockSays
 lock-apart r s e =
     ap₂ (λ (a : Answered) (x : Answer ℕ × (Cpu × Lock)). record { answer = a; cpu = x .1 .0; lock = x .1 .1 })
     (answered-apart (r .answer) (s .answer) (ap (λ (x : Answer ℕ × (Cpu × Lock)). x .0) e)) e
+
+pub unwind-apart : TellsApart unwindSays
+unwind-apart r s e =
+    ap₂ (λ (a : Answered) (x : Answer ℕ × Cpu). record { answer = a; cpu = x .1 })
+    (answered-apart (r .answer) (s .answer) (ap (λ (x : Answer ℕ × Cpu). x .0) e)) e

@@ -1,5 +1,5 @@
--- 01, "Log records": the twelve operations, each a function of the cells that it names. The tests stand in the order of 01's table, after the
--- form test; a value on a refusal is the one that stands after the unchanged call.
+-- 01, "Log records", and 02, request 1: the operations, each a function of the cells that it names. The tests stand in the order of 01's table,
+-- after the form test; a value on a refusal is the one that stands after the unchanged call.
 use Prim.Native.Nat.{ℕ, zero, suc, _+_, _-_, _%_, _^_}
 use mathlib.Core.Bool.{Bool, true, false, _||_, not, cond}
 use mathlib.Core.List.{List, [], _∷_, _++_, map}
@@ -17,7 +17,7 @@ use Rattle.cpu_mask.specs.Mask.{maskBits, cpuMaskMod, cpuPinCompute}
 use Rattle.ipi.specs.Ipi.{maxIpiCpus, noCpu as Ipi·noCpu, computeIpiMask}
 use Rattle.ipi.specs.declared.CpuRecord.{CpuRecord}
 use Rattle.order.specs.Outcome.{Outcome, refuse, accept, answerOf, cellsAfter, appliedTo, accepted}
-use Rattle.machine.specs.State.{cpuSlots, isThread, isPriority, tagBits, threadWord, isCurrent, idleRun, noCpu}
+use Rattle.machine.specs.State.{cpuSlots, isThread, isPriority, tagBits, threadWord, names, isCurrent, idleRun, freeLock, noCpu}
 use Rattle.machine.specs.declared.Current.{Current}
 use Rattle.machine.specs.declared.Place.{Place}
 use Rattle.machine.specs.declared.Setup.{Setup}
@@ -33,6 +33,7 @@ use Rattle.rules.specs.declared.SeatOut.{SeatOut}
 use Rattle.rules.specs.declared.CpuOut.{CpuOut}
 use Rattle.rules.specs.declared.ThreadOut.{ThreadOut}
 use Rattle.rules.specs.declared.LockOut.{LockOut}
+use Rattle.rules.specs.declared.UnwindOut.{UnwindOut}
 
 -- What the results say. An answer: a code and a value.
 abbrev pub answeredSays : Answered → Answer ℕ
@@ -57,6 +58,10 @@ threadSays a = (answeredSays (a .answer), a .thread)
 -- With the CPU and the lock after it.
 abbrev pub lockSays : LockOut → Answer ℕ × (Cpu × Lock)
 lockSays a = (answeredSays (a .answer), (a .cpu, a .lock))
+
+-- With the CPU after it.
+abbrev pub unwindSays : UnwindOut → Answer ℕ × Cpu
+unwindSays a = (answeredSays (a .answer), a .cpu)
 
 -- Refused with a code and a value.
 abbrev pub refused : {W : Type 0} → ℤ → ℕ → Outcome (Answer ℕ) W
@@ -238,3 +243,17 @@ ipiOf s c cpus thread = ipi s c (runsOf cpuSlots cpus) thread
 -- 11 owner: the value is the owner word, in 32 bits.
 unfoldable pub owner : Lock → Answer ℕ
 owner lock = answer OK (lock .word % 2 ^ 32)
+
+-- A lock after CPU c gave back what it had: free if its word names the CPU, else as it was.
+abbrev pub givenBack : Setup → ℕ → Lock → Lock
+givenBack s c lock = cond (names s (lock .word) c) freeLock lock
+
+-- 12 unwind: current thread differs or is none EPERM, value 0. Every lock whose word names the CPU becomes free, and its hold 0; the value is the
+-- hold before.
+unfoldable pub unwind : Setup → ℕ → ℕ → Run → ℕ → List Lock → Outcome (Answer ℕ) (ℕ × List Lock)
+unwind s c t run hold locks = cond (not (isCurrent (run .current) t)) (refused EPERM 0) (done hold (0, map (givenBack s c) locks))
+
+-- The answer of an unwind with the CPU after it, which its test alone decides.
+unfoldable pub unwound : ℕ → Cpu → Answer ℕ × Cpu
+unwound t cpu =
+    cond (isCurrent (cpu .run .current) t) (answer OK (cpu .hold), record { run = cpu .run; hold = 0 }) (answer EPERM 0, cpu)

@@ -1,8 +1,8 @@
-// The twelve operations of a log as definitions, each a function from the values of the cells that it names to their new values and an answer,
+// The thirteen operations of a log as definitions, each a function from the values of the cells that it names to their new values and an answer,
 // and the results that their code gives. A rule never sees the machine, so it reads and writes nothing else.
 //
 // New here; the lock's rule goes by the crate spinlock, the owner word by spinlock_validate, masks by cpu_mask, interrupts by ipi. The code is in
-// three crates by what it changes: cpu_rules, lock_rules and thread_rules. A refusal hands every cell back as it was.
+// crates by what it changes: cpu_rules, lock_rules, thread_rules and unwind_rules. A refusal hands every cell back as it was.
 ghost use mathlib.Core.Path.{_≡_};
 ghost use Rattle.machine.specs.State.{isCurrent};
 ghost use Rattle.rules.specs.Rules.{placed};
@@ -52,6 +52,12 @@ pub struct LockOut {
     pub answer: Answered,
     pub cpu: Cpu,
     pub lock: Lock,
+}
+
+// The CPU that unwinds after its answer.
+pub struct UnwindOut {
+    pub answer: Answered,
+    pub cpu: Cpu,
 }
 
 // Whether a thread has a place.

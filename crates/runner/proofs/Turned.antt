@@ -1,15 +1,16 @@
 -- What the code computes and stores for a record is the answer and the machine after it, arm by arm: the record's numbers are in range, so
 -- that no rule refuses them, and a rule on the loaded cells is the operation (operations/proofs/Turns.antt). Assumes nothing.
 use mathlib.Core.Path.{_≡_, refl, sym, ap, _∙_, subst}
-use mathlib.Core.Bool.{true, _&&_, cond}
-use mathlib.Core.List.{List}
+use mathlib.Core.Bool.{true, false, _&&_, cond}
+use mathlib.Core.List.{List, map}
 use Prim.Native.Nat.{ℕ}
 use borrow.Author.Tests.{lt-ltb}
-use Rattle.error.specs.Codes.{EINVAL}
+use Rattle.error.specs.Codes.{EINVAL, numberOf, isOK}
 use Rattle.error.specs.Answer.{Answer, answer}
 use Rattle.spinlock.specs.declared.Operation.{Operation as LockOperation}
 use Rattle.machine.specs.State.{threadCount, setupOk, hasCpu, isThread, cpuAt, threadAt, lockAt}
 use Rattle.machine.specs.declared.Setup.{Setup}
+use Rattle.machine.specs.declared.Lock.{Lock}
 use Rattle.machine.specs.declared.Machine.{Machine}
 use Rattle.record.specs.Record.{requestOf}
 use Rattle.record.specs.declared.CpuOperation.{CpuOperation}
@@ -22,8 +23,11 @@ use Rattle.rules.specs.declared.Answered.{Answered}
 use Rattle.rules.specs.declared.CpuOut.{CpuOut}
 use Rattle.rules.specs.declared.LockOut.{LockOut}
 use Rattle.rules.specs.declared.ThreadOut.{ThreadOut}
+use Rattle.rules.specs.declared.UnwindOut.{UnwindOut}
 use Rattle.rules.proofs.Ranged.{within}
-use Rattle.operations.specs.Cells.{setThread}
+use Rattle.operations.specs.Cells.{setCpu, setThread}
+use Rattle.operations.proofs.EveryLock.{setLocks}
+use Rattle.operations.proofs.Lengths.{Lengths}
 use Rattle.operations.proofs.Turns.{
   storedLock,
   storedSeat,
@@ -34,6 +38,8 @@ use Rattle.operations.proofs.Turns.{
   thread-turned,
   ipi-turned,
   owner-turned,
+  unwind-turned,
+  unwind-denied,
 }
 
 -- The same for other names of the answer and the machine.
@@ -102,3 +108,16 @@ module _ (m : Machine) {s : Setup} (same : m .setup ≡ s) (ok : setupOk s ≡ t
   pub owner-ran : r .operation ≡ Operation.Owner → (a : Answered) → Rules.answeredSays a ≡ Rules.owner (lockAt m (r .lock .0))
       → Becomes m bytes (Rules.answeredSays a) m
   owner-ran e a is = owner-turned m bytes r own-asks e (Rules.answeredSays a) is
+
+  -- An unwind that was accepted gives every lock back, and one that was refused looks at none.
+  module _ (e : r .operation ≡ Operation.Unwind) (lengths : Lengths m) (o : UnwindOut)
+      (is : Rules.unwindSays o
+      ≡ Rules.ranged (hasCpu s (r .cpu .0) && isThread (r .thread .0)) (cpuAt m (r .cpu .0)) (Rules.unwound (r .thread .0) (cpuAt m (r .cpu .0)))) where
+    pub unwind-ran : isOK (numberOf (o .answer .code)) ≡ true → (locks : List Lock) → locks ≡ map (Rules.givenBack s (r .cpu .0)) (m .locks)
+        → Becomes m bytes (Rules.answeredSays (o .answer)) (setLocks (setCpu m (r .cpu .0) (o .cpu)) locks)
+    unwind-ran ok locks gives =
+        unwind-turned m bytes r own-asks e (lengths .locks) (Rules.unwindSays o) (is ∙ sym (within _ _ in-seat)) ok locks (gives ∙ rw same)
+
+    pub unwind-stopped : isOK (numberOf (o .answer .code)) ≡ false
+        → Becomes m bytes (Rules.answeredSays (o .answer)) (setCpu m (r .cpu .0) (o .cpu))
+    unwind-stopped = unwind-denied m bytes r own-asks e (lengths .locks) (Rules.unwindSays o) (is ∙ sym (within _ _ in-seat))

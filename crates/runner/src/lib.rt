@@ -16,6 +16,8 @@ ghost use Rattle.runner.specs.Step.{steppedSays, step as Step·step};
 ghost use Rattle.runner.specs.Run.{ranSays, lastAnswer, writtenAt, roomAt, ran, ranRoom};
 use answers::ANSWER_BYTES;
 use error::Code;
+use machine::FREE_LOCK;
+use machine::LOCKS;
 use machine::Machine;
 use machine::Setup;
 use record::Operation;
@@ -107,6 +109,21 @@ fn run_records(mut m: Machine, log: &[u8], out: &mut [u8]) -> Stepped
             }
             Operation::Ipi => answer = thread_rules::ipi(setup, c, m.cpus, m.threads[t.0 as usize]),
             Operation::Owner => answer = lock_rules::owner(m.locks[request.lock.0 as usize]),
+            Operation::Unwind => {
+                let o = unwind_rules::unwind(setup, c, t, m.cpus[c.0 as usize]);
+                let cpu = o.cpu;
+                m.cpus[c.0 as usize] = cpu;
+                answer = o.answer;
+                let code = answer.code;
+                if error::is_ok(code) {
+                    for l in 0..LOCKS {
+                        let lock = m.locks[l];
+                        if unwind_rules::names(setup, lock.word, c) {
+                            m.locks[l] = FREE_LOCK;
+                        }
+                    }
+                }
+            }
         }
         put_answer_at(out, i, answer);
     }

@@ -7,12 +7,9 @@ use Rattle.machine.proofs.fresh_machine.Tie as tie
 fresh-mask-requires : tie.Need-fresh-mask-requires
 fresh-mask-requires c κs = search needs
 
-new-requires : tie.Need-new-requires
-new-requires c κs = search needs
-
 returns : tie.Need-returns
 unfolding freshMachine
-returns c = simp (c .before .fresh-mask .ensures, c .new .ensures)
+returns c = simp (c .fresh-mask .ensures)
 
 pub fresh-machine-spec : {M : Type 1} → statement M
-fresh-machine-spec = tie.close (tie.spec fresh-mask-requires new-requires returns)
+fresh-machine-spec = tie.close (tie.spec fresh-mask-requires returns)

@@ -1,4 +1,4 @@
--- Each arm is the row of its number; past 11 no row is left. Assumes nothing.
+-- Each arm is the row of its number; past 12 no row is left. Assumes nothing.
 use mathlib.Core.Path.{refl, ap, _∙_}
 use Prim.Native.Nat.{_≤_}
 use native.Mathlib.Omega.{arith}
@@ -53,6 +53,9 @@ formed-requires-11 c κs = search needs
 
 formed-requires-12 : tie.Need-formed-requires-12
 formed-requires-12 c κs = search needs
+
+formed-requires-13 : tie.Need-formed-requires-13
+formed-requires-13 c κs = search needs
 
 malformed-requires : tie.Need-malformed-requires
 malformed-requires c κs = search needs
@@ -111,21 +114,26 @@ unfolding rowOf
 returns-12 c = c .formed12 .ensures ∙ by-number _ 11 _ _ (c .before .match .keys12) refl
 
 returns-13 : tie.Need-returns-13
-returns-13 c =
+unfolding rowOf
+returns-13 c = c .formed13 .ensures ∙ by-number _ 12 _ _ (c .before .match .keys13) refl
+
+returns-14 : tie.Need-returns-14
+returns-14 c =
     let n = c .before .before .args .f .operation in
-    let p1 : 1 ≤ n = one-past 0 n (omega arith) (c .before .match .rest .0 .0 .0 .0 .0 .0 .0 .0 .0 .0 .0 .1) in
-    let p2 : 2 ≤ n = one-past 1 n (p1) (c .before .match .rest .0 .0 .0 .0 .0 .0 .0 .0 .0 .0 .1) in
-    let p3 : 3 ≤ n = one-past 2 n (p2) (c .before .match .rest .0 .0 .0 .0 .0 .0 .0 .0 .0 .1) in
-    let p4 : 4 ≤ n = one-past 3 n (p3) (c .before .match .rest .0 .0 .0 .0 .0 .0 .0 .0 .1) in
-    let p5 : 5 ≤ n = one-past 4 n (p4) (c .before .match .rest .0 .0 .0 .0 .0 .0 .0 .1) in
-    let p6 : 6 ≤ n = one-past 5 n (p5) (c .before .match .rest .0 .0 .0 .0 .0 .0 .1) in
-    let p7 : 7 ≤ n = one-past 6 n (p6) (c .before .match .rest .0 .0 .0 .0 .0 .1) in
-    let p8 : 8 ≤ n = one-past 7 n (p7) (c .before .match .rest .0 .0 .0 .0 .1) in
-    let p9 : 9 ≤ n = one-past 8 n (p8) (c .before .match .rest .0 .0 .0 .1) in
-    let p10 : 10 ≤ n = one-past 9 n (p9) (c .before .match .rest .0 .0 .1) in
-    let p11 : 11 ≤ n = one-past 10 n (p10) (c .before .match .rest .0 .1) in
-    let p12 : 12 ≤ n = one-past 11 n (p11) (c .before .match .rest .1) in
-    c .malformed .ensures ∙ no-row _ (c .before .before .args .f) p12
+    let p1 : 1 ≤ n = one-past 0 n (omega arith) (c .before .match .rest .0 .0 .0 .0 .0 .0 .0 .0 .0 .0 .0 .0 .1) in
+    let p2 : 2 ≤ n = one-past 1 n (p1) (c .before .match .rest .0 .0 .0 .0 .0 .0 .0 .0 .0 .0 .0 .1) in
+    let p3 : 3 ≤ n = one-past 2 n (p2) (c .before .match .rest .0 .0 .0 .0 .0 .0 .0 .0 .0 .0 .1) in
+    let p4 : 4 ≤ n = one-past 3 n (p3) (c .before .match .rest .0 .0 .0 .0 .0 .0 .0 .0 .0 .1) in
+    let p5 : 5 ≤ n = one-past 4 n (p4) (c .before .match .rest .0 .0 .0 .0 .0 .0 .0 .0 .1) in
+    let p6 : 6 ≤ n = one-past 5 n (p5) (c .before .match .rest .0 .0 .0 .0 .0 .0 .0 .1) in
+    let p7 : 7 ≤ n = one-past 6 n (p6) (c .before .match .rest .0 .0 .0 .0 .0 .0 .1) in
+    let p8 : 8 ≤ n = one-past 7 n (p7) (c .before .match .rest .0 .0 .0 .0 .0 .1) in
+    let p9 : 9 ≤ n = one-past 8 n (p8) (c .before .match .rest .0 .0 .0 .0 .1) in
+    let p10 : 10 ≤ n = one-past 9 n (p9) (c .before .match .rest .0 .0 .0 .1) in
+    let p11 : 11 ≤ n = one-past 10 n (p10) (c .before .match .rest .0 .0 .1) in
+    let p12 : 12 ≤ n = one-past 11 n (p11) (c .before .match .rest .0 .1) in
+    let p13 : 13 ≤ n = one-past 12 n (p12) (c .before .match .rest .1) in
+    c .malformed .ensures ∙ no-row _ (c .before .before .args .f) p13
 
 pub carried-spec : {M : Type 1} → statement M
 carried-spec =
@@ -144,6 +152,7 @@ carried-spec =
     formed-requires-10
     formed-requires-11
     formed-requires-12
+    formed-requires-13
     malformed-requires
     returns
     returns-2
@@ -157,4 +166,5 @@ carried-spec =
     returns-10
     returns-11
     returns-12
-    returns-13)
+    returns-13
+    returns-14)
