@@ -1,6 +1,6 @@
 -- The stopped job. On a well-formed machine where thread t is current on CPU c, an unwind is accepted and says what the CPU held; afterwards
 -- neither has anything, what is others' is as it was, the thread can be taken off, and whoever is put there next finds nothing. Assumes nothing.
-use mathlib.Core.Path.{_≡_, refl, sym, ap, _∙_}
+use mathlib.Core.Path.{_≡_, sym, ap, _∙_}
 use mathlib.Core.Logic.{_≢_}
 use mathlib.Core.Bool.{true, false, false≢true}
 use mathlib.Core.List.{List}
@@ -24,7 +24,6 @@ use Rattle.machine.proofs.CurrentThread.{current-is}
 use Rattle.record.specs.Record.{request, requestOf}
 use Rattle.record.specs.declared.CpuOperation.{CpuOperation}
 use Rattle.record.specs.declared.Operation.{Operation}
-use Rattle.record.specs.declared.Request.{Request}
 use Rattle.rules.specs.Rules.{done, unseated, take}
 use Rattle.wellformed.specs.WellFormed.{wellFormed}
 use Rattle.wellformed.proofs.Facts.{Runs, WellFormed, says}

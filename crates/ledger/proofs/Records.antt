@@ -48,17 +48,15 @@ use Rattle.ledger.specs.Ledger.{
   up,
   down,
   from,
-  lastBy,
   Stand,
   posted,
   settled,
   balance,
   Balanced,
-  InBooks,
 }
 use Rattle.kept.proofs.Walk.{Told}
 use Rattle.ledger.proofs.Moves.{Moves, lock-told}
-use Rattle.ledger.proofs.Stands.{LastIs, Stands, Kept}
+use Rattle.ledger.proofs.Stands.{Stands, Kept}
 use Rattle.ledger.proofs.Unwinds.{unwind-books}
 
 -- The cell in which a book's balance stands.

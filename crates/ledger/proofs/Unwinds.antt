@@ -22,7 +22,7 @@ use Rattle.operations.specs.Operations.{unwinding}
 use Rattle.operations.proofs.Lengths.{Lengths}
 use Rattle.operations.proofs.Unwound.{unwoundMachine, refused-reply, refused-after, accepted-reply, accepted-after}
 use Rattle.kept.proofs.Unwinds.{back-cases, unwound-cpus, unwound-lock}
-use Rattle.ledger.specs.Ledger.{Call, unwound, Book, ofLock, ofCpu, Last, nobody, from, isFrom, Stand, stood, posted, settled, InBooks}
+use Rattle.ledger.specs.Ledger.{unwound, Book, ofLock, ofCpu, Last, nobody, from, isFrom, Stand, stood, posted, settled, InBooks}
 use Rattle.ledger.proofs.Stands.{Stands, Kept, depth-word, word-depth}
 
 is-from : (by : Last) (c : ℕ) → isFrom by c ≡ true → by ≡ from c

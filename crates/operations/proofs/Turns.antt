@@ -29,7 +29,7 @@ use Rattle.operations.specs.Cells.{run, hold, thread, lock, setCpu, setT
 use Rattle.operations.specs.Operations.{one, two, none, withHold, onCpu, onLock, onThread, operationBy, operation}
 use Rattle.operations.specs.Asked.{answered, next}
 use Rattle.operations.proofs.EveryLock.{setLocks}
-use Rattle.operations.proofs.Unwound.{unwoundMachine, refused-reply, refused-after, accepted-reply, accepted-after}
+use Rattle.operations.proofs.Unwound.{refused-reply, refused-after, accepted-reply, accepted-after}
 
 -- A CPU and a lock are stored, or a CPU and a thread.
 abbrev pub storedLock : Machine → ℕ → ℕ → Cpu × Lock → Machine
