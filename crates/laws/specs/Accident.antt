@@ -8,16 +8,19 @@ use Rattle.machine.specs.declared.Machine.{Machine}
 use Rattle.operations.specs.Log.{stateAt}
 use Rattle.laws.specs.Marked.{opened, zeros, busy}
 
--- Up, put, acquire, nested, nested; take, unwind, take; put, acquire.
+-- Thread 3 comes and nests: up, put, acquire, nested, nested.
 unfoldable pub comes : List ℕ
 comes = opened 0x00 0 0 ++ (opened 0x20 3 0 ++ (opened 0x40 0 7 ++ (opened 0x50 0 7 ++ opened 0x50 0 7)))
 
+-- It is stopped: take, unwind, take.
 unfoldable pub stopped : List ℕ
 stopped = opened 0x30 3 0 ++ (opened 0xc0 3 0 ++ opened 0x30 3 0)
 
+-- The next job, thread 4: put, acquire.
 unfoldable pub following : List ℕ
 following = opened 0x20 4 0 ++ opened 0x40 0 7
 
+-- The whole log.
 unfoldable pub accident : List ℕ
 accident = comes ++ (stopped ++ following)
 

@@ -58,9 +58,11 @@ workedLog =
 unfoldable pub zeros : ℕ → List ℕ
 zeros value = 0 ∷ 0 ∷ 0 ∷ 0 ∷ 0 ∷ 0 ∷ 0 ∷ value ∷ []
 
+-- EBUSY, with value 0.
 unfoldable pub busy : List ℕ
 busy = 0xff ∷ 0xff ∷ 0xff ∷ 0xf0 ∷ 0 ∷ 0 ∷ 0 ∷ 0 ∷ []
 
+-- The answers to the worked log.
 unfoldable pub workedAnswers : List ℕ
 workedAnswers = zeros 0 ++ (zeros 0 ++ (zeros 1 ++ (zeros 2 ++ (busy ++ (zeros 16 ++ zeros 1)))))
 

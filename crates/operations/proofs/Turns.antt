@@ -208,8 +208,8 @@ module _ (m : Machine) (bytes : List ℕ) where
               (becomes e (sym (accepted-reply m (r .cpu .0) (r .thread .0) all now), sym (accepted-after m (r .cpu .0) (r .thread .0) all now)))
           go false now = absurd (false≢true (ap (λ (x : Answer ℕ × Cpu). isOK (x .0 .code)) (sym (denied now)) ∙ ok))
 
-      pub unwind-denied : isOK (o .0 .code) ≡ false → Becomes (o .0) (setCpu m (r .cpu .0) (o .1))
-      unwind-denied no-ok = go runs refl
+      pub unwind-refused : isOK (o .0 .code) ≡ false → Becomes (o .0) (setCpu m (r .cpu .0) (o .1))
+      unwind-refused no-ok = go runs refl
         where
           go : (b : Bool) → runs ≡ b → Becomes (o .0) (setCpu m (r .cpu .0) (o .1))
           go true now = absurd (false≢true (sym no-ok ∙ ap (λ (x : Answer ℕ × Cpu). isOK (x .0 .code)) (done now)))

@@ -39,7 +39,7 @@ use Rattle.operations.proofs.Turns.{
   ipi-turned,
   owner-turned,
   unwind-turned,
-  unwind-denied,
+  unwind-refused,
 }
 
 -- The same for other names of the answer and the machine.
@@ -118,6 +118,6 @@ module _ (m : Machine) {s : Setup} (same : m .setup ≡ s) (ok : setupOk s ≡ t
     unwind-ran ok locks gives =
         unwind-turned m bytes r own-asks e (lengths .locks) (Rules.unwindSays o) (is ∙ sym (within _ _ in-seat)) ok locks (gives ∙ rw same)
 
-    pub unwind-stopped : isOK (numberOf (o .answer .code)) ≡ false
+    pub unwind-refused-ran : isOK (numberOf (o .answer .code)) ≡ false
         → Becomes m bytes (Rules.answeredSays (o .answer)) (setCpu m (r .cpu .0) (o .cpu))
-    unwind-stopped = unwind-denied m bytes r own-asks e (lengths .locks) (Rules.unwindSays o) (is ∙ sym (within _ _ in-seat))
+    unwind-refused-ran = unwind-refused m bytes r own-asks e (lengths .locks) (Rules.unwindSays o) (is ∙ sym (within _ _ in-seat))
