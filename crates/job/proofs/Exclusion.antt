@@ -48,9 +48,8 @@ module _ (m : Machine) (w : WellFormed m) (d l t : ℕ) (hd : d < m .setup .n) (
     ways : Ways (m .setup) d u (lockAt m l) (λ _ _. Holder m l d t)
     ways =
         record {
-          acquired = λ e. absurd (not-free e);
-          nested-first = λ e. absurd (not-free e);
-          nested-more = λ mine _. holder mine;
+          taken = λ _ e. absurd (not-free e);
+          deepened = λ mine _. holder mine;
           released = holder;
         }
 
@@ -63,18 +62,18 @@ lock-done op h P (refuse a) e ok = absurd (false≢true (sym e ∙ ok))
 lock-done op h P (accept a v) q ok = q .1
 
 -- A plain acquire of a held lock is refused for everyone: by its record, whatever thread runs on the CPU.
-record-refuses : (s : SpinlockState) (tid : ℕ) (elsewhere : Bool) → held (s .owner) ≡ true → isOK (operate LockOperation.Acquire s tid elsewhere .code) ≡ false
+record-refuses : (s : SpinlockState) (tid : ℕ) (elsewhere : Bool) → held (s .owner) ≡ true → isOK (operate (LockOperation.Acquire false) s tid elsewhere .code) ≡ false
 unfolding operate
 record-refuses s tid elsewhere taken =
-    bool-ind (λ valid. validRecord s ≡ valid → isOK (operate LockOperation.Acquire s tid elsewhere .code) ≡ false) (validRecord s)
+    bool-ind (λ valid. validRecord s ≡ valid → isOK (operate (LockOperation.Acquire false) s tid elsewhere .code) ≡ false) (validRecord s)
     (λ _ valid. ap (λ (a : Answer SpinlockState). isOK (a .code)) (acquire-of-held s tid elsewhere valid taken)) (λ _ bad. rw bad) refl
 
 rule-refuses : (s : Setup) (c : ℕ) (current : Current) (k : Lock) → held (k .state .owner) ≡ true
-    → isOK (answerOf (lockBy s LockOperation.Acquire c current k) .code) ≡ false
+    → isOK (answerOf (lockBy s (LockOperation.Acquire false) c current k) .code) ≡ false
 rule-refuses s c Current.None k taken = refl
 rule-refuses s c (Current.Thread t) k taken =
     let no-ok = record-refuses (k .state) (t .0) (elsewhere s c (t .0) k) taken in
-    let settles = settled s c (t .0) k (ruled s LockOperation.Acquire c (t .0) k) in
+    let settles = settled s c (t .0) k (ruled s (LockOperation.Acquire false) c (t .0) k) in
     bool-ind (λ exists. isOK (answerOf (cond exists settles (refused EINVAL (k .state .«nest_count»))) .code) ≡ false) (isThread (t .0))
     (λ _. rw no-ok no-ok) (λ _. refl)
 
@@ -85,13 +84,13 @@ hold-refuses op h (accept a v) e = e
 
 -- Lock l has an owner. On any machine a record that asks for a plain acquire of it is refused. (It uses no thread: its number z is any.)
 pub acquire-refused : (m : Machine) (bytes : List ℕ) (d : CpuId) (l : LockId) {z : ℕ} → held (lockAt m (l .0) .state .owner) ≡ true
-    → requestOf (m .setup) bytes ≡ request (Operation.OnLock LockOperation.Acquire) (d .0) z (l .0) → isOK (answered m bytes .code) ≡ false
+    → requestOf (m .setup) bytes ≡ request (Operation.OnLock (LockOperation.Acquire false)) (d .0) z (l .0) → isOK (answered m bytes .code) ≡ false
 unfolding answered lockOp
 acquire-refused m bytes d l taken asks =
     let k = lockAt m (l .0) in
     let r = cpuAt m (d .0) .run in
     rw asks
-    (hold-refuses LockOperation.Acquire (cpuAt m (d .0) .hold) (lockOp (m .setup) LockOperation.Acquire (d .0) r k)
+    (hold-refuses (LockOperation.Acquire false) (cpuAt m (d .0) .hold) (lockOp (m .setup) (LockOperation.Acquire false) (d .0) r k)
     (rule-refuses (m .setup) (d .0) (r .current) k taken))
 
 -- Lock l is held by thread t. Whoever has a call of it accepted is t, on the CPU that the lock's word names. (A call of a lock uses no thread:
@@ -108,8 +107,8 @@ module _ (m : Machine) (good : wellFormed m ≡ true) (bytes : List ℕ) (d : Cp
       (told-holder m w (d .0) (l .0) t (range .cpu) (range .lock) owned op) (rw (a .asks) at (a .ok))
 
   -- So it is for a nested acquire.
-  pub nested-by-holder : {z : ℕ} → Accepted m bytes (request (Operation.OnLock LockOperation.Nested) (d .0) z (l .0)) → Holder m (l .0) (d .0) t
-  nested-by-holder a = called-by-holder LockOperation.Nested a
+  pub nested-by-holder : {z : ℕ} → Accepted m bytes (request (Operation.OnLock (LockOperation.Acquire true)) (d .0) z (l .0)) → Holder m (l .0) (d .0) t
+  nested-by-holder a = called-by-holder (LockOperation.Acquire true) a
 
   -- So it is for a release.
   pub released-by-holder : {z : ℕ} → Accepted m bytes (request (Operation.OnLock LockOperation.Release) (d .0) z (l .0)) → Holder m (l .0) (d .0) t

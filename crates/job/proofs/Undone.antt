@@ -1,7 +1,7 @@
--- Nothing is lost: a release right after an accepted nested acquire by the same CPU is accepted, and the machine is the one before the two.
--- Assumes nothing.
+-- Nothing is lost: a release right after an accepted acquire of either kind by the same CPU is accepted, and the machine is the one before
+-- the two. Assumes nothing.
 use mathlib.Core.Path.{_≡_, refl, ap, ap₂, sym, _∙_}
-use mathlib.Core.Bool.{true, false, false≢true}
+use mathlib.Core.Bool.{Bool, true, false, false≢true}
 use mathlib.Core.List.{List, [], _∷_}
 use Prim.Native.Nat.{ℕ, zero, suc, _-_, _<_}
 use native.Mathlib.Omega.{arith}
@@ -19,7 +19,7 @@ use Rattle.spinlock.specs.declared.Owner.{Owner}
 use Rattle.spinlock.specs.declared.SpinlockState.{SpinlockState}
 use Rattle.spinlock.specs.declared.Operation.{Operation as LockOperation}
 use Rattle.spinlock.proofs.Situations.{HeldBy, below-is-own}
-use Rattle.spinlock.proofs.Laws.{operated, nested, release-undoes, acquire-then-release}
+use Rattle.spinlock.proofs.Laws.{operated, release-undoes, acquire-then-release}
 use Rattle.order.specs.Outcome.{Outcome, refuse, accept, answerOf}
 use Rattle.order.specs.Cells.{commit}
 use Rattle.machine.specs.State.{cpuSlots, threadCount, lockCount, isThread, tagBits, threadWord, noCpu, freeLock, cpuAt, lockAt}
@@ -51,10 +51,9 @@ use Rattle.job.specs.Job.{Accepted, Gives}
 pub record Undone (m : Machine) (c l : ℕ) (v : Lock) : Type 0 where
   pub back : lockOp (m .setup) LockOperation.Release c (cpuAt m c .run) v ≡ accept (answer OK (lockAt m l .state .«nest_count»)) (lockAt m l)
 
--- Of a nested acquire that is to be shown, and of the other operations nothing.
+-- Of an acquire that is to be shown, and of a release nothing.
 abbrev UndoneBy : Machine → ℕ → ℕ → LockOperation → Lock → Type 0
-UndoneBy m c l LockOperation.Acquire v = Unit {0}
-UndoneBy m c l LockOperation.Nested v = Undone m c l v
+UndoneBy m c l (LockOperation.Acquire nested) v = Undone m c l v
 UndoneBy m c l LockOperation.Release v = Unit {0}
 
 module _ (m : Machine) (w : WellFormed m) (c l t : ℕ) (hc : c < m .setup .n) (hl : l < lockCount) (runs : Runs m c t) where
@@ -95,9 +94,9 @@ module _ (m : Machine) (w : WellFormed m) (c l t : ℕ) (hc : c < m .setup .n) (
       let made : wordAfter (m .setup) c t (lockAt m l) (takenBy t) ≡ ours = rw none (same-value ours-made) in
       released _ made (acquire-then-release t .1 ∙ ap (answer OK) (sym e)) (rw none (sym (w .locks l hl .free none .word)))
 
-  nested-up : HeldBy (lockAt m l .state) t → operate LockOperation.Release (deeper (lockAt m l .state)) t false ≡ answer OK (lockAt m l .state)
+  went-up : HeldBy (lockAt m l .state) t → operate LockOperation.Release (deeper (lockAt m l .state)) t false ≡ answer OK (lockAt m l .state)
       → Undone m c l (leaves (m .setup) c t (lockAt m l) (deeper (lockAt m l .state)))
-  nested-up mine rule =
+  went-up mine rule =
       let owner = mine .owner in
       let same : wordAfter (m .setup) c t (lockAt m l) (deeper (lockAt m l .state)) ≡ lockAt m l .word = rw owner in
       let made : lockAt m l .word ≡ ours =
@@ -109,23 +108,23 @@ module _ (m : Machine) (w : WellFormed m) (c l t : ℕ) (hc : c < m .setup .n) (
       → operate LockOperation.Release (deeper (lockAt m l .state)) t false ≡ answer OK (lockAt m l .state)
   unfolding codeOf after
   up-and-down mine below =
-      let rule = operated LockOperation.Nested (lockAt m l .state) t false (lock-valid m w l hl) (below-is-own (lockAt m l .state) t (mine .owner) below) in
+      let rule = operated (LockOperation.Acquire true) (lockAt m l .state) t false (lock-valid m w l hl) (below-is-own (lockAt m l .state) t (mine .owner) below) in
       ap (λ (a : Answer SpinlockState). operate LockOperation.Release (a .value) t false) (sym rule)
-      ∙ release-undoes LockOperation.Nested nested (lockAt m l .state) t false (ap (λ (a : Answer SpinlockState). a .code) rule)
+      ∙ release-undoes true (lockAt m l .state) t false (ap (λ (a : Answer SpinlockState). a .code) rule)
 
   ways : Ways (m .setup) c t (lockAt m l) (UndoneBy m c l)
   ways =
       record {
-        acquired = λ _. tt;
-        nested-first = taken;
-        nested-more = λ mine below. nested-up mine (up-and-down mine below);
+        taken = λ nested. taken;
+        deepened = λ mine below. went-up mine (up-and-down mine below);
         released = λ _. tt;
       }
 
-nested-undone : (m : Machine) → WellFormed m → (c l : ℕ) → c < m .setup .n → l < lockCount
-    → Told (Undone m c l) (lockOp (m .setup) LockOperation.Nested c (cpuAt m c .run) (lockAt m l))
-nested-undone m w c l hc hl =
-    walked (m .setup) c (cpuAt m c .run) (lockAt m l) (lock-valid m w l hl) (UndoneBy m c l) (λ t runs. ways m w c l t hc hl runs) LockOperation.Nested
+acquire-undone : (m : Machine) → WellFormed m → (c l : ℕ) → c < m .setup .n → l < lockCount → (nested : Bool)
+    → Told (Undone m c l) (lockOp (m .setup) (LockOperation.Acquire nested) c (cpuAt m c .run) (lockAt m l))
+acquire-undone m w c l hc hl nested =
+    walked (m .setup) c (cpuAt m c .run) (lockAt m l) (lock-valid m w l hl) (UndoneBy m c l) (λ t runs. ways m w c l t hc hl runs)
+    (LockOperation.Acquire nested)
 
 -- What is stored over a place, and then what stood there, leaves a list as it was.
 set-back : {A : Type 0} (xs : List A) (i : ℕ) (v d : A) → set (set xs i v) i (getD xs i d) ≡ xs
@@ -163,7 +162,7 @@ module _ (m : Machine) (s : Lengths m) (c l : ℕ) (hc : c < cpuSlots) (hl : l <
       ∙ ap (withHold LockOperation.Release h) (u .back)
       ∙ ap (λ (x : ℕ). accept (answer OK (lockAt m l .state .«nest_count»)) (lockAt m l, (x, tt))) less
 
-  -- An accepted nested acquire, then the release: accepted, and the machine as it was.
+  -- An accepted acquire, then the release: accepted, and the machine as it was.
   abbrev Restored : Machine → Type 0
   Restored x = (commit machineStore (Answer ℕ) (lock l ∷ hold c ∷ []) (freed x) x ≡ m) × (isOK (answerOf (freed x) .code) ≡ true)
 
@@ -175,32 +174,40 @@ module _ (m : Machine) (s : Lengths m) (c l : ℕ) (hc : c < cpuSlots) (hl : l <
         ap (λ (o : Outcome (Answer ℕ) (Lock × (ℕ × Unit {0}))). isOK (answerOf o .code)) out,
       )
 
-module _ (m : Machine) (s : Lengths m) (w : WellFormed m) (c : CpuId) (l : LockId) (hc : c .0 < m .setup .n) (hl : l .0 < lockCount) where
+module _ (m : Machine) (s : Lengths m) (w : WellFormed m) (c : CpuId) (l : LockId) (hc : c .0 < m .setup .n) (hl : l .0 < lockCount)
+    (nested : Bool) where
+  -- The hold that the acquire leaves.
+  abbrev raised : ℕ
+  raised = moved (LockOperation.Acquire nested) (cpuAt m (c .0) .hold)
+
   inside : c .0 < cpuSlots
   inside = let few = w .size .few in omega arith
 
-  one-less : moved LockOperation.Nested (cpuAt m (c .0) .hold) - 1 ≡ cpuAt m (c .0) .hold
+  one-less : raised - 1 ≡ cpuAt m (c .0) .hold
   one-less = rw (lt-ltb (cpuAt m (c .0) .hold) 0xffff_ffff (hold-most m w (c .0) inside)) (omega arith)
 
-  gives : (v : Lock) → Undone m (c .0) (l .0) v → Gives m c l (relocked m s (c .0) (l .0) inside hl (moved LockOperation.Nested (cpuAt m (c .0) .hold)) v m)
+  gives : (v : Lock) → Undone m (c .0) (l .0) v → Gives m c l (relocked m s (c .0) (l .0) inside hl raised v m)
   unfolding next answered
   gives v u bytes z asks =
-      rw asks (restored m s (c .0) (l .0) inside hl (moved LockOperation.Nested (cpuAt m (c .0) .hold)) v one-less u)
+      rw asks (restored m s (c .0) (l .0) inside hl raised v one-less u)
 
-  after-nested : (o : Outcome (Answer ℕ) Lock) → Told (Undone m (c .0) (l .0)) o
-      → isOK (answerOf (withHold LockOperation.Nested (cpuAt m (c .0) .hold) o) .code) ≡ true
-      → Gives m c l (commit machineStore (Answer ℕ) (lock (l .0) ∷ hold (c .0) ∷ []) (withHold LockOperation.Nested (cpuAt m (c .0) .hold) o) m)
-  after-nested (refuse a) e ok = absurd (false≢true (sym e ∙ ok))
-  after-nested (accept a v) u ok = gives v (u .1)
+  abbrev acquired : Outcome (Answer ℕ) Lock → Outcome (Answer ℕ) (Lock × (ℕ × Unit {0}))
+  acquired o = withHold (LockOperation.Acquire nested) (cpuAt m (c .0) .hold) o
 
--- An accepted nested acquire of lock l by CPU c, and then a release of it by that CPU: the machine before is the machine after. (A nested acquire
--- uses no thread: its number z is any.)
-pub nothing-lost : (m : Machine) → Lengths m → wellFormed m ≡ true → (bytes : List ℕ) (c : CpuId) (l : LockId) {z : ℕ}
-    → Accepted m bytes (request (Operation.OnLock LockOperation.Nested) (c .0) z (l .0)) → Gives m c l (next m bytes)
+  after-acquire : (o : Outcome (Answer ℕ) Lock) → Told (Undone m (c .0) (l .0)) o → isOK (answerOf (acquired o) .code) ≡ true
+      → Gives m c l (commit machineStore (Answer ℕ) (lock (l .0) ∷ hold (c .0) ∷ []) (acquired o) m)
+  after-acquire (refuse a) e ok = absurd (false≢true (sym e ∙ ok))
+  after-acquire (accept a v) u ok = gives v (u .1)
+
+-- An accepted acquire of lock l by CPU c, and then a release of it by that CPU: the machine before is the machine after. (An acquire uses no
+-- thread: its number z is any.)
+pub nothing-lost : (m : Machine) → Lengths m → wellFormed m ≡ true → (bytes : List ℕ) (c : CpuId) (l : LockId) {nested : Bool} {z : ℕ}
+    → Accepted m bytes (request (Operation.OnLock (LockOperation.Acquire nested)) (c .0) z (l .0)) → Gives m c l (next m bytes)
 unfolding next answered lockOp
-nothing-lost m s good bytes c l a =
+nothing-lost m s good bytes c l {nested = nested} a =
     let w = says m good in
     let range = rw (a .asks) at (asks-in-range m w bytes) in
     rw (a .asks)
-    (after-nested m s w c l (range .cpu) (range .lock) (lockOp (m .setup) LockOperation.Nested (c .0) (cpuAt m (c .0) .run) (lockAt m (l .0)))
-    (nested-undone m w (c .0) (l .0) (range .cpu) (range .lock)) (rw (a .asks) at (a .ok)))
+    (after-acquire m s w c l (range .cpu) (range .lock) nested
+    (lockOp (m .setup) (LockOperation.Acquire nested) (c .0) (cpuAt m (c .0) .run) (lockAt m (l .0)))
+    (acquire-undone m w (c .0) (l .0) (range .cpu) (range .lock) nested) (rw (a .asks) at (a .ok)))

@@ -176,9 +176,8 @@ module _ (m : Machine) (w : WellFormed m) (c l t : ℕ) (hc : c < m .setup .n) (
   ways : Ways (m .setup) c t (lockAt m l) (λ op. Relocks m c l (moved op (cpuAt m c .hold)))
   ways =
       record {
-        acquired = taken-here;
-        nested-first = taken-here;
-        nested-more = λ mine below.
+        taken = λ nested. taken-here;
+        deepened = λ mine below.
             let some = mine .some in
             let word = word-held (deeper (lockAt m l .state)) t t (mine .owner) (mine .owner) in
             leveled (mine .owner) _ _ (mine .owner) refl word (omega arith) (omega arith) (rw more (omega arith));

@@ -29,10 +29,9 @@ leaves s c t lock next = record { state = next; word = wordAfter s c t lock next
 
 -- Q holds of it, in each of the ways in which an operation is accepted.
 pub record Ways (s : Setup) (c t : ℕ) (lock : Lock) (Q : Operation → Lock → Type 0) : Type 0 where
-  pub acquired : lock .state ≡ freeRecord → Q Operation.Acquire (leaves s c t lock (takenBy t))
-  pub nested-first : lock .state ≡ freeRecord → Q Operation.Nested (leaves s c t lock (takenBy t))
-  pub nested-more : HeldBy (lock .state) t → lock .state .«nest_count» < maxNestDepth
-      → Q Operation.Nested (leaves s c t lock (deeper (lock .state)))
+  pub taken : (nested : Bool) → lock .state ≡ freeRecord → Q (Operation.Acquire nested) (leaves s c t lock (takenBy t))
+  pub deepened : HeldBy (lock .state) t → lock .state .«nest_count» < maxNestDepth
+      → Q (Operation.Acquire true) (leaves s c t lock (deeper (lock .state)))
   pub released : HeldBy (lock .state) t → Q Operation.Release (leaves s c t lock (shallower (lock .state)))
 
 module _ (s : Setup) (c t : ℕ) (lock : Lock) (valid : validRecord (lock .state) ≡ true) (Q : Operation → Lock → Type 0)
@@ -40,14 +39,11 @@ module _ (s : Setup) (c t : ℕ) (lock : Lock) (valid : validRecord (lock .state
   by-view : (op : Operation) {sit : Situation} → View (lock .state) t sit
       → Accepting (Q op) (settled s c t lock (answer (codeOf op sit) (after op sit (lock .state) t)))
   unfolding codeOf after
-  by-view Operation.Acquire (free e) = ways .acquired e
-  by-view Operation.Acquire (own _ _) = tt
-  by-view Operation.Acquire (full _ _) = tt
-  by-view Operation.Acquire (foreign _ _) = tt
-  by-view Operation.Nested (free e) = ways .nested-first e
-  by-view Operation.Nested (own mine below) = ways .nested-more mine below
-  by-view Operation.Nested (full _ _) = tt
-  by-view Operation.Nested (foreign _ _) = tt
+  by-view (Operation.Acquire nested) (free e) = ways .taken nested e
+  by-view (Operation.Acquire false) (own _ _) = tt
+  by-view (Operation.Acquire true) (own mine below) = ways .deepened mine below
+  by-view (Operation.Acquire nested) (full _ _) = tt
+  by-view (Operation.Acquire nested) (foreign _ _) = tt
   by-view Operation.Release (free e) = tt
   by-view Operation.Release (own mine _) = ways .released mine
   by-view Operation.Release (full mine _) = ways .released mine

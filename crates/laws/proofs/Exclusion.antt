@@ -26,7 +26,7 @@ use Rattle.job.proofs.Exclusion as Job
 -- Lock l has an owner. On every machine, well-formed or not, a record that asks for a plain acquire of it, from any CPU d, is refused. (Neither
 -- this call nor those below use a thread: its number z is any.)
 pub acquire-refused : (m : Machine) (l : LockId) (t : ℕ) → lockAt m (l .0) .state .owner ≡ Owner.Thread t → (bytes : List ℕ) (d : CpuId) {z : ℕ}
-    → requestOf (m .setup) bytes ≡ request (Operation.OnLock LockOperation.Acquire) (d .0) z (l .0) → isOK (answered m bytes .code) ≡ false
+    → requestOf (m .setup) bytes ≡ request (Operation.OnLock (LockOperation.Acquire false)) (d .0) z (l .0) → isOK (answered m bytes .code) ≡ false
 acquire-refused m l t thread bytes d asks = Job.acquire-refused m bytes d l (ap held thread) asks
 
 -- Lock l is held: its record names thread t, and its word CPU c. The call comes from CPU d.
@@ -39,7 +39,7 @@ module _ (m : Machine) (formed : wellFormed m ≡ true) (l : LockId) (c t : ℕ)
   from : Holder m (l .0) (d .0) t → FromHolder
   from h = (sym (h .cpu) ∙ cpu, h .thread)
 
-  pub nested-excluded : {z : ℕ} → Accepted m bytes (request (Operation.OnLock LockOperation.Nested) (d .0) z (l .0)) → FromHolder
+  pub nested-excluded : {z : ℕ} → Accepted m bytes (request (Operation.OnLock (LockOperation.Acquire true)) (d .0) z (l .0)) → FromHolder
   nested-excluded a = from (Job.nested-by-holder m formed bytes d l t thread a)
 
   pub release-excluded : {z : ℕ} → Accepted m bytes (request (Operation.OnLock LockOperation.Release) (d .0) z (l .0)) → FromHolder

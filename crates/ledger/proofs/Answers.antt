@@ -94,14 +94,11 @@ take-coded t h r k =
 -- Operations 4, 5 and 6, by the table of codes.
 table-code : (op : LockOperation) (sit : Situation) → IsCode (codeOf op sit)
 unfolding codeOf
-table-code LockOperation.Acquire Situation.Free = is-code Code.Ok
-table-code LockOperation.Acquire Situation.Own = is-code Code.Ebusy
-table-code LockOperation.Acquire Situation.Full = is-code Code.Ebusy
-table-code LockOperation.Acquire Situation.Foreign = is-code Code.Ebusy
-table-code LockOperation.Nested Situation.Free = is-code Code.Ok
-table-code LockOperation.Nested Situation.Own = is-code Code.Ok
-table-code LockOperation.Nested Situation.Full = is-code Code.Ebusy
-table-code LockOperation.Nested Situation.Foreign = is-code Code.Ebusy
+table-code (LockOperation.Acquire nested) Situation.Free = is-code Code.Ok
+table-code (LockOperation.Acquire false) Situation.Own = is-code Code.Ebusy
+table-code (LockOperation.Acquire true) Situation.Own = is-code Code.Ok
+table-code (LockOperation.Acquire nested) Situation.Full = is-code Code.Ebusy
+table-code (LockOperation.Acquire nested) Situation.Foreign = is-code Code.Ebusy
 table-code LockOperation.Release Situation.Free = is-code Code.Eperm
 table-code LockOperation.Release Situation.Own = is-code Code.Ok
 table-code LockOperation.Release Situation.Full = is-code Code.Ok

@@ -1,6 +1,6 @@
 -- What an accepted acquire or release does to its lock's depth and its CPU's hold, and who then acquired last. Assumes nothing.
 use mathlib.Core.Path.{_≡_, refl, sym, ap, _∙_}
-use mathlib.Core.Bool.{cond}
+use mathlib.Core.Bool.{Bool, true, cond}
 use Prim.Native.Nat.{ℕ, _+_, _-_, _<_}
 use native.Mathlib.Omega.{arith}
 use lib.Dec.{eqb}
@@ -45,18 +45,18 @@ module _ (m : Machine) (w : WellFormed m) (c l t : ℕ) (hc : c < m .setup .n) (
       ap (cpuOf (tagBits (m .setup))) (word-made m w c l t hc hl runs (takenBy t) refl none)
       ∙ word-cpu (tagBits (m .setup)) c t (cpu-fits m w c hc)
 
-  taken : (op : Operation) → kindOf op ≡ acquire → moved op (cpuAt m c .hold) ≡ oneMore (cpuAt m c .hold) → lockAt m l .state ≡ freeRecord
-      → Moves m op c l (leaves (m .setup) c t (lockAt m l) (takenBy t))
-  taken op kind moves e =
+  taken : (nested : Bool) → lockAt m l .state ≡ freeRecord → Moves m (Operation.Acquire nested) c l (leaves (m .setup) c t (lockAt m l) (takenBy t))
+  taken nested e =
       let depth : lockAt m l .state .«nest_count» ≡ 0 = ap (λ (x : SpinlockState). x .«nest_count») e in
       record {
-        depth = rw kind (omega arith);
-        hold = rw (moves, more, kind) (omega arith);
-        last = λ by _ _. rw kind (ap from (sym (taken-cpu e)));
+        depth = omega arith;
+        hold = rw more (omega arith);
+        last = λ by _ _. ap from (sym (taken-cpu e));
       }
 
-  nested : HeldBy (lockAt m l .state) t → Moves m Operation.Nested c l (leaves (m .setup) c t (lockAt m l) (deeper (lockAt m l .state)))
-  nested held =
+  deepened : HeldBy (lockAt m l .state) t
+      → Moves m (Operation.Acquire true) c l (leaves (m .setup) c t (lockAt m l) (deeper (lockAt m l .state)))
+  deepened held =
       let word = word-held m w c l t hc hl runs (deeper (lockAt m l .state)) t t (held .owner) (held .owner) in
       record {
         depth = omega arith;
@@ -93,9 +93,8 @@ module _ (m : Machine) (w : WellFormed m) (c l t : ℕ) (hc : c < m .setup .n) (
   ways : Ways (m .setup) c t (lockAt m l) (λ op. Moves m op c l)
   ways =
       record {
-        acquired = taken Operation.Acquire refl refl;
-        nested-first = taken Operation.Nested refl refl;
-        nested-more = λ held _. nested held;
+        taken = taken;
+        deepened = λ held _. deepened held;
         released = lowered;
       }
 

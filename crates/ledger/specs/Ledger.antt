@@ -23,8 +23,7 @@ pub data Kind : Type 0 where
 
 -- Which of the two an operation on a lock is: 5 counts as an acquire.
 abbrev pub kindOf : LockOperation → Kind
-kindOf LockOperation.Acquire = acquire
-kindOf LockOperation.Nested = acquire
+kindOf (LockOperation.Acquire nested) = acquire
 kindOf LockOperation.Release = release
 
 -- What a record asks of locks: an acquire or a release, by a CPU, of a lock; an unwind (12) by a CPU; or something else.

@@ -91,8 +91,7 @@ fn moved(operation: Operation, hold: u32) -> u32
     ensures { λ r. ⌜ r ≡ Rules·moved operation hold ⌝ }
 {
     match operation {
-        Operation::Acquire => one_more(hold),
-        Operation::Nested => one_more(hold),
+        Operation::Acquire { nested: _ } => one_more(hold),
         Operation::Release => one_less(hold),
     }
 }

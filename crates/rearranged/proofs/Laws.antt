@@ -32,8 +32,7 @@ cpu-row CpuOperation.Put c t = refl
 cpu-row CpuOperation.Take c t = refl
 
 lock-row : (s : Setup) (op : LockOperation) (c l : ℕ) → cellsOf (onLock s op c l) ≡ rowOnLock op c l
-lock-row s LockOperation.Acquire c l = refl
-lock-row s LockOperation.Nested c l = refl
+lock-row s (LockOperation.Acquire nested) c l = refl
 lock-row s LockOperation.Release c l = refl
 
 thread-row : (s : Setup) (op : ThreadOperation) (c t : ℕ) → cellsOf (onThread s op c t) ≡ rowOnThread op t

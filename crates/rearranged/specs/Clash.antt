@@ -20,8 +20,7 @@ rowOnCpu CpuOperation.Take c t = record { reads = hold c ∷ []; writes = run c 
 
 -- 4, 5 and 6.
 abbrev pub rowOnLock : LockOperation → ℕ → ℕ → Footprint Cell
-rowOnLock LockOperation.Acquire c l = record { reads = run c ∷ []; writes = lock l ∷ hold c ∷ [] }
-rowOnLock LockOperation.Nested c l = record { reads = run c ∷ []; writes = lock l ∷ hold c ∷ [] }
+rowOnLock (LockOperation.Acquire nested) c l = record { reads = run c ∷ []; writes = lock l ∷ hold c ∷ [] }
 rowOnLock LockOperation.Release c l = record { reads = run c ∷ []; writes = lock l ∷ hold c ∷ [] }
 
 -- 7, 8 and 9.

@@ -3,7 +3,7 @@
 -- A record is taken apart into its fields, and its operation's row says what the fields that it does not use are.
 -- Assumes nothing.
 use mathlib.Core.Path.{_≡_, refl, sym, ap, ap₂, _∙_, subst}
-use mathlib.Core.Bool.{true, _&&_, cond}
+use mathlib.Core.Bool.{true, false, _&&_, cond}
 use mathlib.Core.List.{List, [], _∷_, _++_}
 use Prim.Native.Nat.{ℕ, zero, suc, _+_, _*_, _/_, _%_, _^_, _<_}
 use native.Mathlib.Nat.{suc-ne-zero, suc-inj}
@@ -84,8 +84,8 @@ asks-back (Operation.OnCpu CpuOperation.Up) e = refl
 asks-back (Operation.OnCpu CpuOperation.Down) e = refl
 asks-back (Operation.OnCpu CpuOperation.Put) e = refl
 asks-back (Operation.OnCpu CpuOperation.Take) e = refl
-asks-back (Operation.OnLock LockOperation.Acquire) e = refl
-asks-back (Operation.OnLock LockOperation.Nested) e = refl
+asks-back (Operation.OnLock (LockOperation.Acquire false)) e = refl
+asks-back (Operation.OnLock (LockOperation.Acquire true)) e = refl
 asks-back (Operation.OnLock LockOperation.Release) e = refl
 asks-back (Operation.OnThread (ThreadOperation.Mask enable disable)) e = refl
 asks-back (Operation.OnThread ThreadOperation.Pin) e = refl

@@ -207,8 +207,14 @@ fn carried(n: u32, f: Fields) -> Request
         1 => formed(n, 1, f, Operation::OnCpu(CpuOperation::Down)),
         2 => formed(n, 2, f, Operation::OnCpu(CpuOperation::Put)),
         3 => formed(n, 3, f, Operation::OnCpu(CpuOperation::Take)),
-        4 => formed(n, 4, f, Operation::OnLock(spinlock::Operation::Acquire)),
-        5 => formed(n, 5, f, Operation::OnLock(spinlock::Operation::Nested)),
+        4 => {
+            let plain = spinlock::Operation::Acquire { nested: false };
+            formed(n, 4, f, Operation::OnLock(plain))
+        }
+        5 => {
+            let nested = spinlock::Operation::Acquire { nested: true };
+            formed(n, 5, f, Operation::OnLock(nested))
+        }
         6 => formed(n, 6, f, Operation::OnLock(spinlock::Operation::Release)),
         7 => {
             let masks = ThreadOperation::Mask {

@@ -168,8 +168,7 @@ oneMore hold = cond (ltb hold 0xffff_ffff) (hold + 1) hold
 
 -- An acquire (5 counts as one) or a release moves a hold by one.
 abbrev pub moved : Operation → ℕ → ℕ
-moved Operation.Acquire hold = oneMore hold
-moved Operation.Nested hold = oneMore hold
+moved (Operation.Acquire nested) hold = oneMore hold
 moved Operation.Release hold = hold - 1
 
 -- It does so if it is accepted.

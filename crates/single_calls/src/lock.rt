@@ -75,13 +75,13 @@ fn elsewhere(s: SpinlockState, tid: u32) {
         b"acquire_elsewhere",
         s,
         tid,
-        s.operate(Operation::Acquire, tid, true),
+        s.operate(Operation::Acquire { nested: false }, tid, true),
     );
     changed(
         b"nested_elsewhere",
         s,
         tid,
-        s.operate(Operation::Nested, tid, true),
+        s.operate(Operation::Acquire { nested: true }, tid, true),
     );
     changed(
         b"release_elsewhere",

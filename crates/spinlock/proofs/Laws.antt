@@ -38,7 +38,7 @@ use Rattle.spinlock.specs.declared.Owner.{Owner}
 use Rattle.spinlock.specs.declared.Owner.the-variants.{None, Thread}
 use Rattle.spinlock.specs.declared.SpinlockState.{SpinlockState}
 use Rattle.spinlock.specs.declared.Operation.{Operation}
-use Rattle.spinlock.specs.declared.Operation.the-variants.{Acquire, Nested, Release}
+use Rattle.spinlock.specs.declared.Operation.the-variants.{Acquire, Release}
 use Rattle.spinlock.specs.declared.Situation.{Situation}
 use Rattle.spinlock.specs.declared.Situation.the-variants.{Free, Own, Full, Foreign}
 use Rattle.spinlock.proofs.Situations.{HeldBy, View, free, own, full, foreign, view, below-is-own, deepest-is-full}
@@ -74,16 +74,13 @@ shallower-valid s tid mine =
 after-valid : (op : Operation) (s : SpinlockState) (tid : ℕ) {sit : Situation} → validRecord s ≡ true → View s tid sit
     → validRecord (after op sit s tid) ≡ true
 unfolding after validRecord
-after-valid Acquire s tid valid (free _) = refl
-after-valid Acquire s tid valid (own _ _) = valid
-after-valid Acquire s tid valid (full _ _) = valid
-after-valid Acquire s tid valid (foreign _ _) = valid
-after-valid Nested s tid valid (free _) = refl
-after-valid Nested s tid valid (own mine below) =
+after-valid (Acquire nested) s tid valid (free _) = refl
+after-valid (Acquire false) s tid valid (own _ _) = valid
+after-valid (Acquire true) s tid valid (own mine below) =
     let more : s .«nest_count» + 1 ≤ maxNestDepth = omega arith in
     held-valid (deeper s) tid (mine .owner) (omega arith) more
-after-valid Nested s tid valid (full _ _) = valid
-after-valid Nested s tid valid (foreign _ _) = valid
+after-valid (Acquire nested) s tid valid (full _ _) = valid
+after-valid (Acquire nested) s tid valid (foreign _ _) = valid
 after-valid Release s tid valid (free _) = valid
 after-valid Release s tid valid (own mine _) = shallower-valid s tid mine
 after-valid Release s tid valid (full mine _) = shallower-valid s tid mine
@@ -102,14 +99,11 @@ operate-keeps-valid op s tid elsewhere =
 
 after-refused : (op : Operation) (sit : Situation) (s : SpinlockState) (tid : ℕ) → (codeOf op sit ≡ OK → ⊥) → after op sit s tid ≡ s
 unfolding codeOf after
-after-refused Acquire Free s tid h = absurd (h refl)
-after-refused Acquire Own s tid h = refl
-after-refused Acquire Full s tid h = refl
-after-refused Acquire Foreign s tid h = refl
-after-refused Nested Free s tid h = absurd (h refl)
-after-refused Nested Own s tid h = absurd (h refl)
-after-refused Nested Full s tid h = refl
-after-refused Nested Foreign s tid h = refl
+after-refused (Acquire nested) Free s tid h = absurd (h refl)
+after-refused (Acquire false) Own s tid h = refl
+after-refused (Acquire true) Own s tid h = absurd (h refl)
+after-refused (Acquire nested) Full s tid h = refl
+after-refused (Acquire nested) Foreign s tid h = refl
 after-refused Release Free s tid h = refl
 after-refused Release Own s tid h = absurd (h refl)
 after-refused Release Full s tid h = absurd (h refl)
@@ -152,37 +146,30 @@ shallower-deeper s some =
     let less : s .«nest_count» + 1 - 1 ≡ s .«nest_count» = omega arith in
     rw (ne-eqb (s .«nest_count» + 1) 1 (λ e. omega arith), less)
 
--- The operations that take a lock.
-pub data Takes : Operation → Type 0 where
-  plain : Takes Acquire
-  nested : Takes Nested
-
-undone : (op : Operation) → Takes op → (s : SpinlockState) (tid : ℕ) {sit : Situation} → View s tid sit → codeOf op sit ≡ OK
-    → release (after op sit s tid) tid ≡ answer OK s
+undone : (nested : Bool) (s : SpinlockState) (tid : ℕ) {sit : Situation} → View s tid sit → codeOf (Acquire nested) sit ≡ OK
+    → release (after (Acquire nested) sit s tid) tid ≡ answer OK s
 unfolding codeOf after
-undone Acquire plain s tid (free e) _ = release-held (takenBy tid) tid (taken-held tid) ∙ ap (answer OK) (sym e)
-undone Acquire plain s tid (own _ _) e = absurd (pos-ne-negsuc 0 15 (sym e))
-undone Acquire plain s tid (full _ _) e = absurd (pos-ne-negsuc 0 15 (sym e))
-undone Acquire plain s tid (foreign _ _) e = absurd (pos-ne-negsuc 0 15 (sym e))
-undone Nested nested s tid (free e) _ = release-held (takenBy tid) tid (taken-held tid) ∙ ap (answer OK) (sym e)
-undone Nested nested s tid (own mine below) _ =
+undone nested s tid (free e) _ = release-held (takenBy tid) tid (taken-held tid) ∙ ap (answer OK) (sym e)
+undone false s tid (own _ _) e = absurd (pos-ne-negsuc 0 15 (sym e))
+undone true s tid (own mine below) _ =
     release-held (deeper s) tid (deeper-held s tid mine below) ∙ ap (answer OK) (shallower-deeper s (mine .some))
-undone Nested nested s tid (full _ _) e = absurd (pos-ne-negsuc 0 15 (sym e))
-undone Nested nested s tid (foreign _ _) e = absurd (pos-ne-negsuc 0 15 (sym e))
+undone nested s tid (full _ _) e = absurd (pos-ne-negsuc 0 15 (sym e))
+undone nested s tid (foreign _ _) e = absurd (pos-ne-negsuc 0 15 (sym e))
 
 -- Upstream's lemma_acquire_release_roundtrip and lemma_nested_acquire_release: whatever record an accepted acquire of either kind was asked
 -- of, a release by the same thread gives that record back, flag included.
-pub release-undoes : (op : Operation) → Takes op → (s : SpinlockState) (tid : ℕ) (elsewhere : Bool) → operate op s tid elsewhere .code ≡ OK
-    → release (operate op s tid elsewhere .value) tid ≡ answer OK s
-release-undoes op takes s tid elsewhere =
-    bool-ind
-    (λ b. validRecord s ≡ b → operate op s tid elsewhere .code ≡ OK → release (operate op s tid elsewhere .value) tid ≡ answer OK s)
-    (validRecord s)
+pub release-undoes : (nested : Bool) (s : SpinlockState) (tid : ℕ) (elsewhere : Bool) → operate (Acquire nested) s tid elsewhere .code ≡ OK
+    → release (operate (Acquire nested) s tid elsewhere .value) tid ≡ answer OK s
+release-undoes nested s tid elsewhere =
+    let acquired = operate (Acquire nested) s tid elsewhere in
+    bool-ind (λ b. validRecord s ≡ b → acquired .code ≡ OK → release (acquired .value) tid ≡ answer OK s) (validRecord s)
     (λ _ valid accepted.
-    let e = operated op s tid elsewhere valid refl in
+    let e = operated (Acquire nested) s tid elsewhere valid refl in
     ap (λ (a : Answer SpinlockState). release (a .value) tid) e
-    ∙ undone op takes s tid (view s tid elsewhere valid) (sym (same-code e) ∙ accepted))
-    (λ _ bad accepted. absurd (pos-ne-negsuc 0 21 (sym accepted ∙ same-code (invalid-refused op s tid elsewhere bad)))) refl
+    ∙ undone nested s tid (view s tid elsewhere valid) (sym (same-code e) ∙ accepted))
+    (λ _ bad accepted.
+    absurd (pos-ne-negsuc 0 21 (sym accepted ∙ same-code (invalid-refused (Acquire nested) s tid elsewhere bad))))
+    refl
 
 -- A plain acquire of the free record and a release are back at the free record.
 pub acquire-then-release : (tid : ℕ) → (acquire freeRecord tid ≡ answer OK (takenBy tid)) × (release (takenBy tid) tid ≡ answer OK freeRecord)
@@ -200,7 +187,7 @@ unfolding operate validRecord situationAt codeOf after
 nested-deeper zero tid h = refl
 nested-deeper (suc n) tid h =
     let s = atDepth (suc n) tid in
-    operated Nested s tid false (held-valid s tid refl (omega arith) (omega arith)) (below-is-own s tid refl h)
+    operated (Acquire true) s tid false (held-valid s tid refl (omega arith) (omega arith)) (below-is-own s tid refl h)
     ∙ ap (λ (d : ℕ). answer OK (record { owner = Thread tid; «nest_count» = d; «irq_saved» = true })) (add-one (suc n))
 
 -- At 255 it goes no further.
@@ -255,11 +242,11 @@ fewer-do-not n k tid h l =
 
 -- A plain acquire of a held lock is refused to every thread, its owner too, wherever it is.
 pub acquire-of-held : (s : SpinlockState) (tid : ℕ) (elsewhere : Bool) → validRecord s ≡ true → held (s .owner) ≡ true
-    → operate Acquire s tid elsewhere ≡ answer EBUSY s
+    → operate (Acquire false) s tid elsewhere ≡ answer EBUSY s
 unfolding codeOf after
-acquire-of-held s tid elsewhere valid taken = operated Acquire s tid elsewhere valid refl ∙ by (view s tid elsewhere valid)
+acquire-of-held s tid elsewhere valid taken = operated (Acquire false) s tid elsewhere valid refl ∙ by (view s tid elsewhere valid)
   where
-    by : {sit : Situation} → View s tid sit → answer (codeOf Acquire sit) (after Acquire sit s tid) ≡ answer EBUSY s
+    by : {sit : Situation} → View s tid sit → answer (codeOf (Acquire false) sit) (after (Acquire false) sit s tid) ≡ answer EBUSY s
     by (free e) = absurd (false≢true (sym (ap (λ (r : SpinlockState). held (r .owner)) e) ∙ taken))
     by (own _ _) = refl
     by (full _ _) = refl
@@ -278,8 +265,7 @@ unfolding situationAt after
 own-elsewhere op s tid valid mine = operated op s tid true valid (simp (mine, eq-eqb tid tid refl)) ∙ ap (answer (codeOf op Foreign)) (stays op)
   where
     stays : (o : Operation) → after o Foreign s tid ≡ s
-    stays Acquire = refl
-    stays Nested = refl
+    stays (Acquire nested) = refl
     stays Release = refl
 
 -- To a thread that is not the owner it is no matter.

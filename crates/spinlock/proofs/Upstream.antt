@@ -35,7 +35,7 @@ use Rattle.spinlock.specs.declared.Owner.{Owner}
 use Rattle.spinlock.specs.declared.Owner.the-variants.{None, Thread}
 use Rattle.spinlock.specs.declared.SpinlockState.{SpinlockState}
 use Rattle.spinlock.specs.declared.Situation.{Situation}
-use Rattle.spinlock.specs.declared.Operation.the-variants.{Acquire, Nested, Release}
+use Rattle.spinlock.specs.declared.Operation.the-variants.{Acquire, Release}
 use Rattle.spinlock.proofs.Situations.{HeldBy, View, free, own, full, foreign, view, none-is-free, below-is-own, deepest-is-full, other-is-foreign}
 use Rattle.spinlock.proofs.Laws.{operated, release-held, plain-acquire-of-held}
 
@@ -89,7 +89,7 @@ module _ (s : SpinlockState) (tid : ℕ) (valid : validRecord s ≡ true) where
   -- acquire: free gives owner, depth 1 and the flag; held is EBUSY and changes nothing.
   pub acquire-free : s .owner ≡ None → acquire s tid ≡ answer OK (takenBy tid)
   unfolding codeOf after
-  acquire-free e = operated Acquire s tid false valid (none-is-free s tid e)
+  acquire-free e = operated (Acquire false) s tid false valid (none-is-free s tid e)
 
   pub acquire-held : (t : ℕ) → s .owner ≡ Thread t → acquire s tid ≡ answer EBUSY s
   acquire-held t e = plain-acquire-of-held s tid valid (ap held e)
@@ -97,19 +97,19 @@ module _ (s : SpinlockState) (tid : ℕ) (valid : validRecord s ≡ true) where
   -- acquire_nested: free; the same owner with room; the same owner at the greatest depth; another owner. The flag stays in the last three.
   pub nested-free : s .owner ≡ None → acquireNested s tid ≡ answer OK (takenBy tid)
   unfolding codeOf after
-  nested-free e = operated Nested s tid false valid (none-is-free s tid e)
+  nested-free e = operated (Acquire true) s tid false valid (none-is-free s tid e)
 
   pub nested-own : s .owner ≡ Thread tid → s .«nest_count» < maxNestDepth → acquireNested s tid ≡ answer OK (deeper s)
   unfolding codeOf after
-  nested-own e below = operated Nested s tid false valid (below-is-own s tid e below)
+  nested-own e below = operated (Acquire true) s tid false valid (below-is-own s tid e below)
 
   pub nested-full : s .owner ≡ Thread tid → maxNestDepth ≤ s .«nest_count» → acquireNested s tid ≡ answer EBUSY s
   unfolding codeOf after
-  nested-full e deepest = operated Nested s tid false valid (deepest-is-full s tid e deepest)
+  nested-full e deepest = operated (Acquire true) s tid false valid (deepest-is-full s tid e deepest)
 
   pub nested-other : (t : ℕ) → s .owner ≡ Thread t → (t ≡ tid → ⊥) → acquireNested s tid ≡ answer EBUSY s
   unfolding codeOf after
-  nested-other t e other = operated Nested s tid false valid (other-is-foreign s tid t e other)
+  nested-other t e other = operated (Acquire true) s tid false valid (other-is-foreign s tid t e other)
 
   -- release: not the owner is EPERM and changes nothing; the owner at depth 1 frees it; deeper, the owner gives back one level.
   pub release-free : s .owner ≡ None → release s tid ≡ answer EPERM s

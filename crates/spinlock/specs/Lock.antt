@@ -9,7 +9,7 @@ use Rattle.spinlock.specs.declared.Owner.the-variants.{None, Thread}
 use Rattle.spinlock.specs.declared.SpinlockState.{SpinlockState}
 use Rattle.spinlock.specs.declared.Changed.{Changed}
 use Rattle.spinlock.specs.declared.Operation.{Operation}
-use Rattle.spinlock.specs.declared.Operation.the-variants.{Acquire, Nested, Release}
+use Rattle.spinlock.specs.declared.Operation.the-variants.{Acquire, Release}
 use Rattle.spinlock.specs.declared.Situation.{Situation}
 use Rattle.spinlock.specs.declared.Situation.the-variants.{Free, Own, Full, Foreign}
 use Rattle.spinlock.specs.Table.{codeOf}
@@ -61,14 +61,10 @@ situationAt s tid elsewhere = situationBy (s .owner) (s .«nest_count») tid els
 
 -- The record after an operation in a situation. What is refused stays as it was.
 unfoldable pub after : Operation → Situation → SpinlockState → ℕ → SpinlockState
-after Acquire Free s tid = takenBy tid
-after Acquire Own s tid = s
-after Acquire Full s tid = s
-after Acquire Foreign s tid = s
-after Nested Free s tid = takenBy tid
-after Nested Own s tid = deeper s
-after Nested Full s tid = s
-after Nested Foreign s tid = s
+after (Acquire nested) Free s tid = takenBy tid
+after (Acquire nested) Own s tid = cond nested (deeper s) s
+after (Acquire nested) Full s tid = s
+after (Acquire nested) Foreign s tid = s
 after Release Free s tid = s
 after Release Own s tid = shallower s
 after Release Full s tid = shallower s
@@ -81,11 +77,11 @@ operate op s tid elsewhere =
 
 -- acquire: free is taken; held is EBUSY, for the owner also. Nobody is elsewhere.
 abbrev pub acquire : SpinlockState → ℕ → Answer SpinlockState
-acquire s tid = operate Acquire s tid false
+acquire s tid = operate (Acquire false) s tid false
 
 -- acquire_nested: as acquire when free; the owner below 255 gains one; the owner at 255, or another thread, EBUSY.
 abbrev pub acquireNested : SpinlockState → ℕ → Answer SpinlockState
-acquireNested s tid = operate Nested s tid false
+acquireNested s tid = operate (Acquire true) s tid false
 
 -- release: the owner loses one level, and at depth 1 frees the lock; else EPERM, for a free lock too.
 abbrev pub release : SpinlockState → ℕ → Answer SpinlockState

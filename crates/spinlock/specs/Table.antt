@@ -1,17 +1,17 @@
 -- 01, "What must change shape": the codes of acquire, acquire_nested and release depend only on whether a record is free, the owner's
 -- below 255, the owner's at 255 or another's.
 use Prim.Native.Nat.{ℕ}
+use mathlib.Core.Bool.{cond}
 use lib.IntN.{ℤ}
 use Rattle.error.specs.Codes.{OK, EPERM, EBUSY}
 use Rattle.spinlock.specs.declared.Operation.{Operation}
-use Rattle.spinlock.specs.declared.Operation.the-variants.{Acquire, Nested, Release}
+use Rattle.spinlock.specs.declared.Operation.the-variants.{Acquire, Release}
 use Rattle.spinlock.specs.declared.Situation.{Situation}
 use Rattle.spinlock.specs.declared.Situation.the-variants.{Free, Own, Full, Foreign}
 
 -- An operation's row of the table.
 abbrev pub rowOf : Operation → ℕ
-rowOf Acquire = 0
-rowOf Nested = 1
+rowOf (Acquire nested) = cond nested 1 0
 rowOf Release = 2
 
 -- A situation's column.
@@ -24,14 +24,10 @@ columnOf Foreign = 3
 -- acquire: held is EBUSY, for the owner also. acquire_nested: the owner at 255, or another thread, EBUSY. release: else EPERM, for a free
 -- lock too.
 unfoldable pub codeOf : Operation → Situation → ℤ
-codeOf Acquire Free = OK
-codeOf Acquire Own = EBUSY
-codeOf Acquire Full = EBUSY
-codeOf Acquire Foreign = EBUSY
-codeOf Nested Free = OK
-codeOf Nested Own = OK
-codeOf Nested Full = EBUSY
-codeOf Nested Foreign = EBUSY
+codeOf (Acquire nested) Free = OK
+codeOf (Acquire nested) Own = cond nested OK EBUSY
+codeOf (Acquire nested) Full = EBUSY
+codeOf (Acquire nested) Foreign = EBUSY
 codeOf Release Free = EPERM
 codeOf Release Own = OK
 codeOf Release Full = OK

@@ -50,10 +50,9 @@ pub struct Changed {
     pub state: SpinlockState,
 }
 
-// The calls that change a record.
+// The calls that change a record. An acquire is plain or nested.
 pub enum Operation {
-    Acquire,
-    Nested,
+    Acquire { nested: bool },
     Release,
 }
 
@@ -66,7 +65,7 @@ pub enum Situation {
     Foreign,
 }
 
-// The code of each operation in each situation: rows acquire, nested, release; columns free, own, full, foreign.
+// The code of each operation in each situation: rows plain acquire, nested acquire, release; columns free, own, full, foreign.
 const CODES: [[Code; 4]; 3] = [
     [Code::Ok, Code::Ebusy, Code::Ebusy, Code::Ebusy],
     [Code::Ok, Code::Ok, Code::Ebusy, Code::Ebusy],
@@ -77,8 +76,7 @@ fn row(operation: Operation) -> usize
     ensures { λ r. ⌜ (r ≡ rowOf operation) × (r < 3) ⌝ }
 {
     match operation {
-        Operation::Acquire => 0,
-        Operation::Nested => 1,
+        Operation::Acquire { nested } => { if nested { 1 } else { 0 } }
         Operation::Release => 2,
     }
 }
@@ -202,15 +200,9 @@ impl SpinlockState {
         ensures { λ r. ⌜ r ≡ Lock·after operation situation self tid ⌝ }
     {
         match operation {
-            Operation::Acquire => match situation {
+            Operation::Acquire { nested } => match situation {
                 Situation::Free => taken_by(tid),
-                Situation::Own => self,
-                Situation::Full => self,
-                Situation::Foreign => self,
-            },
-            Operation::Nested => match situation {
-                Situation::Free => taken_by(tid),
-                Situation::Own => self.deeper(),
+                Situation::Own => { if nested { self.deeper() } else { self } }
                 Situation::Full => self,
                 Situation::Foreign => self,
             },
@@ -245,14 +237,14 @@ impl SpinlockState {
     pub fn acquire(self, tid: u32) -> Changed
         ensures { λ r. ⌜ changedSays r ≡ acquire self tid ⌝ }
     {
-        self.operate(Operation::Acquire, tid, false)
+        self.operate(Operation::Acquire { nested: false }, tid, false)
     }
 
     // Takes a free lock, or goes one level deeper for its owner. At the greatest depth, or held by another thread, it is busy.
     pub fn acquire_nested(self, tid: u32) -> Changed
         ensures { λ r. ⌜ changedSays r ≡ acquireNested self tid ⌝ }
     {
-        self.operate(Operation::Nested, tid, false)
+        self.operate(Operation::Acquire { nested: true }, tid, false)
     }
 
     // Gives back one level, for the owner alone.

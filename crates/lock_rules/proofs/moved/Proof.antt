@@ -13,12 +13,6 @@ one-more-requires c κs = search needs
 enum-told-2 : tie.Need-enum-told-2
 enum-told-2 c = search needs
 
-one-more-requires-2 : tie.Need-one-more-requires-2
-one-more-requires-2 c κs = search needs
-
-enum-told-3 : tie.Need-enum-told-3
-enum-told-3 c = search needs
-
 one-less-requires : tie.Need-one-less-requires
 one-less-requires c κs = search needs
 
@@ -26,21 +20,9 @@ returns : tie.Need-returns
 returns c = c .one-more .ensures ∙ simp (c .before .enum-told .given .1)
 
 returns-2 : tie.Need-returns-2
-returns-2 c = c .one-more2 .ensures ∙ simp (c .before .enum-told2 .given .1)
-
-returns-3 : tie.Need-returns-3
-returns-3 c = c .one-less .ensures ∙ simp (c .before .enum-told3 .given .1)
+returns-2 c = c .one-less .ensures ∙ simp (c .before .enum-told2 .given .1)
 
 pub moved-spec : {M : Type 1} → statement M
 moved-spec =
     tie.close
-    (tie.spec
-    enum-told
-    one-more-requires
-    enum-told-2
-    one-more-requires-2
-    enum-told-3
-    one-less-requires
-    returns
-    returns-2
-    returns-3)
+    (tie.spec enum-told one-more-requires enum-told-2 one-less-requires returns returns-2)

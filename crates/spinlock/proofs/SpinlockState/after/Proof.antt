@@ -7,14 +7,22 @@ use Rattle.spinlock.proofs.Situations.{own-says, full-says}
 use Rattle.spinlock.proofs.SpinlockState.after.Statement.{statement}
 use Rattle.spinlock.proofs.SpinlockState.after.Tie as tie
 
+enum-known-operation : tie.Need-enum-known-operation
+enum-known-operation c = search needs
+
 enum-told : tie.Need-enum-told
 enum-told c = search needs
+
+taken-by-requires : tie.Need-taken-by-requires
+taken-by-requires c κs = search needs
 
 enum-told-2 : tie.Need-enum-told-2
 enum-told-2 c = search needs
 
-taken-by-requires : tie.Need-taken-by-requires
-taken-by-requires c κs = search needs
+deeper-requires : tie.Need-deeper-requires
+deeper-requires c κs =
+    let p = c .before .before .before .before .before .before in
+    own-says _ _ (p .pre .1 .0) (p .pre .0) (sym (p .pre .1 .1) ∙ c .before .enum-told2 .given .1) .1
 
 enum-told-3 : tie.Need-enum-told-3
 enum-told-3 c = search needs
@@ -31,120 +39,76 @@ enum-told-6 c = search needs
 enum-told-7 : tie.Need-enum-told-7
 enum-told-7 c = search needs
 
-taken-by-requires-2 : tie.Need-taken-by-requires-2
-taken-by-requires-2 c κs = search needs
+shallower-requires : tie.Need-shallower-requires
+shallower-requires c κs =
+    let p = c .before .before .before .before in
+    own-says _ _ (p .pre .1 .0) (p .pre .0) (sym (p .pre .1 .1) ∙ c .enum-told7 .given .1) .0 .some
 
 enum-told-8 : tie.Need-enum-told-8
 enum-told-8 c = search needs
 
-deeper-requires : tie.Need-deeper-requires
-deeper-requires c κs =
+shallower-requires-2 : tie.Need-shallower-requires-2
+shallower-requires-2 c κs =
     let p = c .before .before .before .before in
-    own-says _ _ (p .pre .1 .0) (p .pre .0) (sym (p .pre .1 .1) ∙ c .enum-told8 .given .1) .1
+    full-says _ _ (p .pre .1 .0) (p .pre .0) (sym (p .pre .1 .1) ∙ c .enum-told8 .given .1) .some
 
 enum-told-9 : tie.Need-enum-told-9
 enum-told-9 c = search needs
 
-enum-told-10 : tie.Need-enum-told-10
-enum-told-10 c = search needs
-
-enum-told-11 : tie.Need-enum-told-11
-enum-told-11 c = search needs
-
-enum-told-12 : tie.Need-enum-told-12
-enum-told-12 c = search needs
-
-enum-told-13 : tie.Need-enum-told-13
-enum-told-13 c = search needs
-
-shallower-requires : tie.Need-shallower-requires
-shallower-requires c κs =
-    let p = c .before .before .before .before in
-    own-says _ _ (p .pre .1 .0) (p .pre .0) (sym (p .pre .1 .1) ∙ c .enum-told13 .given .1) .0 .some
-
-enum-told-14 : tie.Need-enum-told-14
-enum-told-14 c = search needs
-
-shallower-requires-2 : tie.Need-shallower-requires-2
-shallower-requires-2 c κs =
-    let p = c .before .before .before .before in
-    full-says _ _ (p .pre .1 .0) (p .pre .0) (sym (p .pre .1 .1) ∙ c .enum-told14 .given .1) .some
-
-enum-told-15 : tie.Need-enum-told-15
-enum-told-15 c = search needs
-
 returns : tie.Need-returns
 unfolding after
-returns c = simp (c .before .enum-told2 .given .1, c .before .before .before .enum-told .given .1, c .taken-by .ensures)
+returns c = simp (c .before .enum-told .given .1, c .before .before .before .before .operation .given .1, c .taken-by .ensures)
 
 returns-2 : tie.Need-returns-2
 unfolding after
-returns-2 c = simp (c .enum-told3 .given .1, c .before .before .enum-told .given .1)
+returns-2 c = simp (c .before .before .enum-told2 .given .1, c .before .before .before .before .before .operation .given .1, c .before .if1 .taken, c .deeper .ensures)
 
 returns-3 : tie.Need-returns-3
 unfolding after
-returns-3 c = simp (c .enum-told4 .given .1, c .before .before .enum-told .given .1)
+returns-3 c = simp (c .before .enum-told2 .given .1, c .before .before .before .before .operation .given .1, c .if1 .left)
 
 returns-4 : tie.Need-returns-4
 unfolding after
-returns-4 c = simp (c .enum-told5 .given .1, c .before .before .enum-told .given .1)
+returns-4 c = simp (c .enum-told3 .given .1, c .before .before .before .operation .given .1)
 
 returns-5 : tie.Need-returns-5
 unfolding after
-returns-5 c = simp (c .before .enum-told7 .given .1, c .before .before .before .enum-told6 .given .1, c .taken-by2 .ensures)
+returns-5 c = simp (c .enum-told4 .given .1, c .before .before .before .operation .given .1)
 
 returns-6 : tie.Need-returns-6
 unfolding after
-returns-6 c = simp (c .before .enum-told8 .given .1, c .before .before .before .enum-told6 .given .1, c .deeper .ensures)
+returns-6 c = simp (c .enum-told6 .given .1, c .before .before .enum-told5 .given .1)
 
 returns-7 : tie.Need-returns-7
 unfolding after
-returns-7 c = simp (c .enum-told9 .given .1, c .before .before .enum-told6 .given .1)
+returns-7 c = simp (c .before .enum-told7 .given .1, c .before .before .before .enum-told5 .given .1, c .shallower .ensures)
 
 returns-8 : tie.Need-returns-8
 unfolding after
-returns-8 c = simp (c .enum-told10 .given .1, c .before .before .enum-told6 .given .1)
+returns-8 c = simp (c .before .enum-told8 .given .1, c .before .before .before .enum-told5 .given .1, c .shallower2 .ensures)
 
 returns-9 : tie.Need-returns-9
 unfolding after
-returns-9 c = simp (c .enum-told12 .given .1, c .before .before .enum-told11 .given .1)
-
-returns-10 : tie.Need-returns-10
-unfolding after
-returns-10 c = simp (c .before .enum-told13 .given .1, c .before .before .before .enum-told11 .given .1, c .shallower .ensures)
-
-returns-11 : tie.Need-returns-11
-unfolding after
-returns-11 c = simp (c .before .enum-told14 .given .1, c .before .before .before .enum-told11 .given .1, c .shallower2 .ensures)
-
-returns-12 : tie.Need-returns-12
-unfolding after
-returns-12 c = simp (c .enum-told15 .given .1, c .before .before .enum-told11 .given .1)
+returns-9 c = simp (c .enum-told9 .given .1, c .before .before .enum-told5 .given .1)
 
 pub after-spec : {M : Type 1} → statement M
 after-spec =
     tie.close
     (tie.spec
+    enum-known-operation
     enum-told
-    enum-told-2
     taken-by-requires
+    enum-told-2
+    deeper-requires
     enum-told-3
     enum-told-4
     enum-told-5
     enum-told-6
     enum-told-7
-    taken-by-requires-2
-    enum-told-8
-    deeper-requires
-    enum-told-9
-    enum-told-10
-    enum-told-11
-    enum-told-12
-    enum-told-13
     shallower-requires
-    enum-told-14
+    enum-told-8
     shallower-requires-2
-    enum-told-15
+    enum-told-9
     returns
     returns-2
     returns-3
@@ -153,7 +117,4 @@ after-spec =
     returns-6
     returns-7
     returns-8
-    returns-9
-    returns-10
-    returns-11
-    returns-12)
+    returns-9)
