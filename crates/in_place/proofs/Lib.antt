@@ -1,3 +1,5 @@
+pub mod Frame
 pub mod InPlace
 pub mod Laws
 pub mod OneResult
+pub mod Rest
