@@ -95,11 +95,14 @@ fn run_records(mut m: Machine, log: &[u8], out: &mut [u8]) -> Stepped
             Operation::OnLock(asked) => {
                 let cpu = m.cpus[c.0 as usize];
                 let o = lock_rules::on_lock(setup, asked, c, cpu, m.locks[request.lock.0 as usize]);
-                let cpu = o.cpu;
-                let lock = o.lock;
-                m.cpus[c.0 as usize] = cpu;
-                m.locks[request.lock.0 as usize] = lock;
                 answer = o.answer;
+                let code = answer.code;
+                if error::is_ok(code) {
+                    let cpu = o.cpu;
+                    let lock = o.lock;
+                    m.cpus[c.0 as usize] = cpu;
+                    m.locks[request.lock.0 as usize] = lock;
+                }
             }
             Operation::OnThread(asked) => {
                 let o = thread_rules::on_thread(setup, asked, c, m.threads[t.0 as usize]);
