@@ -126,8 +126,7 @@ int32_t hubcrackle_validate_ipi_mask(uint32_t mask, uint32_t current_cpu, uint32
  *      1 down      CPU                     0
  *      2 put       CPU, thread             0
  *      3 take      CPU, thread             0
- *      4 acquire   CPU, lock               how deep the lock is held
- *      5 nested    CPU, lock               how deep the lock is held
+ *      4 acquire   CPU, lock, A            how deep the lock is held; A is 0, or 1 if it may nest
  *      6 release   CPU, lock               how deep the lock is held
  *      7 mask      thread, A on, B off     the thread's mask
  *      8 pin       CPU, thread             the thread's mask
@@ -135,6 +134,9 @@ int32_t hubcrackle_validate_ipi_mask(uint32_t mask, uint32_t current_cpu, uint32
  *     10 ipi       CPU, thread             the CPUs to interrupt
  *     11 owner     lock                    the lock's owner word; thread t has thread word 4 (t + 1)
  *     12 unwind    CPU, thread             how deep the CPU's locks were held, added up; it frees them all
+ *
+ * A plain acquire, A = 0, takes a free lock, and is EBUSY on a held one, to its holder too. A nested one, A = 1, takes the holder one level
+ * deeper, up to 255. There is no operation 5: it was the nested acquire once, and is of another form now, whatever its fields are.
  *
  * An answer: the record's code, 4 bytes in two's complement, and its value, 4 bytes, both most significant byte first. A refused record has an
  * answer too, with the value as it stands, of unwind 0, and changes nothing; a record of another form is EINVAL with value 0.

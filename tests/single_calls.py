@@ -58,13 +58,13 @@ def lock_record(name, a):
         # The right thread with the wrong CPU is no owner: EBUSY to take the lock, EPERM to give it back.
         if valid and mine:
             return ("EPERM " if name == "release_elsewhere" else "EBUSY ") + same
-        name = {"acquire_elsewhere": "acquire", "nested_elsewhere": "acquire_nested", "release_elsewhere": "release"}[name]
-    if name in ("acquire", "acquire_nested", "release"):
+        name = name.removesuffix("_elsewhere")
+    if name in ("acquire", "release"):
         if not valid:
             return "EINVAL " + same
-        if name != "release" and owner is None:
+        if name == "acquire" and owner is None:
             return "OK " + shown(thread, 1, 1)
-        if name == "acquire_nested" and mine and depth < 255:
+        if name == "acquire" and a["nested"] and mine and depth < 255:
             return "OK " + shown(owner, depth + 1, irq)
         if name == "release" and mine:
             return "OK " + (shown(None, 0, 0) if depth == 1 else shown(owner, depth - 1, irq))

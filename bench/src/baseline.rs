@@ -113,7 +113,8 @@ impl Record {
             && match self.op {
                 0 | 1 => cpu && no_thread && no_lock && no_masks,
                 2 | 3 | 8 | 10 | 12 => cpu && thread && no_lock && no_masks,
-                4..=6 => cpu && no_thread && lock && no_masks,
+                4 => cpu && no_thread && lock && self.a < 2 && self.b == 0,
+                6 => cpu && no_thread && lock && no_masks,
                 7 => no_cpu && thread && no_lock,
                 9 => no_cpu && thread && no_lock && (-128..=127).contains(&(self.a as i32)) && self.b == 0,
                 11 => no_cpu && no_thread && lock && no_masks,
@@ -243,25 +244,13 @@ impl Machine {
         (OK, 0)
     }
 
-    fn acquire(&mut self, c: usize, l: usize) -> Answer {
-        let cpu = &mut self.cpus[c];
-        let lock = &mut self.locks[l];
-        let Some(thread) = cpu.current else { return (EINVAL, lock.depth) };
-        if lock.owner.is_some() {
-            return (EBUSY, lock.depth);
-        }
-        lock.take(thread, c);
-        cpu.hold += 1;
-        (OK, lock.depth)
-    }
-
-    fn acquire_nested(&mut self, c: usize, l: usize) -> Answer {
+    fn acquire(&mut self, c: usize, l: usize, nested: bool) -> Answer {
         let cpu = &mut self.cpus[c];
         let lock = &mut self.locks[l];
         let Some(thread) = cpu.current else { return (EINVAL, lock.depth) };
         if lock.owner.is_none() {
             lock.take(thread, c);
-        } else if lock.word == thread_word(thread) + c as u64 && lock.depth < MAX_DEPTH {
+        } else if nested && lock.word == thread_word(thread) + c as u64 && lock.depth < MAX_DEPTH {
             lock.depth += 1;
         } else {
             return (EBUSY, lock.depth);
@@ -342,8 +331,7 @@ impl Machine {
             1 => self.down(r.cpu),
             2 => self.put(r.cpu, r.thread),
             3 => self.take(r.cpu, r.thread),
-            4 => self.acquire(r.cpu, r.lock),
-            5 => self.acquire_nested(r.cpu, r.lock),
+            4 => self.acquire(r.cpu, r.lock, r.a == 1),
             6 => self.release(r.cpu, r.lock),
             7 => self.change_mask(r.thread, (self.threads[r.thread].mask | r.a) & !r.b),
             8 => self.change_mask(r.thread, 1 << r.cpu),

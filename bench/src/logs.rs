@@ -8,9 +8,15 @@ pub const RECORDS: usize = 2_048;
 /// Four CPUs, no pin-only.
 pub const SETUP: u8 = 0x40;
 
-pub const OPERATIONS: [&str; 13] = ["up", "down", "put", "take", "acquire", "nested", "release", "mask", "pin", "priority", "ipi", "owner", "unwind"];
+/// The kinds of records. Each stands at its operation's number, but for a nested acquire, which is an acquire with A = 1.
+pub const KINDS: [&str; 13] = ["up", "down", "put", "take", "acquire", "nested", "release", "mask", "pin", "priority", "ipi", "owner", "unwind"];
 
-/// How often each operation is drawn, so that each is accepted often. Unwind is drawn seldom: few jobs are stopped.
+const ACQUIRE: usize = 4;
+const NESTED: usize = 5;
+/// Where A's last byte stands in a record.
+const A_END: usize = 7;
+
+/// How often each kind is drawn, so that each is accepted often. Unwind is drawn seldom: few jobs are stopped.
 const SHARES: [u64; 13] = [6, 4, 40, 60, 3, 3, 30, 1, 1, 1, 1, 1, 1];
 
 const CPUS: u64 = 4;
@@ -20,7 +26,7 @@ const LOCKS: u64 = 16;
 /// How many records are drawn to find one that is accepted. Some stay refused, as on a controller.
 const DRAWS: usize = 24;
 
-/// The next operation, by the shares.
+/// The next kind, by the shares.
 fn drawn(random: &mut Random) -> usize {
     let mut left = random.below(SHARES.iter().sum());
     SHARES
@@ -36,40 +42,48 @@ fn drawn(random: &mut Random) -> usize {
         .expect("the shares add up")
 }
 
-/// A record of an operation, with its used fields in range.
-fn record(operation: usize, random: &mut Random) -> [u8; RECORD_BYTES] {
+/// The kind of a record.
+pub fn kind_of(record: &[u8]) -> usize {
+    let number = usize::from(record[0] >> 4);
+    if number == ACQUIRE && record[A_END] == 1 { NESTED } else { number }
+}
+
+/// A record of a kind, with its used fields in range.
+fn record(kind: usize, random: &mut Random) -> [u8; RECORD_BYTES] {
     let (cpu, thread, lock) = (random.below(CPUS) as u8, random.below(THREADS) as u8, random.below(LOCKS) as u8);
-    let (cpu, thread, lock) = match OPERATIONS[operation] {
+    let (cpu, thread, lock) = match KINDS[kind] {
         "up" | "down" => (cpu, 0, 0),
         "put" | "take" | "pin" | "ipi" | "unwind" => (cpu, thread, 0),
         "acquire" | "nested" | "release" => (cpu, 0, lock),
         "mask" | "priority" => (0, thread, 0),
         _ => (0, 0, lock),
     };
-    let (a, b) = match OPERATIONS[operation] {
+    let (a, b) = match KINDS[kind] {
         // Enables the four CPUs, so that a thread that was pinned can be put elsewhere again.
         "mask" => (15, random.below(1 << 28) as u32 * 16),
+        "nested" => (1, 0),
         "priority" => ((random.below(256) as i32 - 128) as u32, 0),
         _ => (0, 0),
     };
     let mut bytes = [0; RECORD_BYTES];
-    bytes[..4].copy_from_slice(&[(operation as u8) << 4 | cpu, thread, lock, 0]);
+    let number = if kind == NESTED { ACQUIRE } else { kind };
+    bytes[..4].copy_from_slice(&[(number as u8) << 4 | cpu, thread, lock, 0]);
     bytes[4..8].copy_from_slice(&a.to_be_bytes());
     bytes[8..].copy_from_slice(&b.to_be_bytes());
     bytes
 }
 
-/// A log of the longest size from a fresh machine. `operation` draws the next one.
-fn log_of(random: &mut Random, mut operation: impl FnMut(&mut Random) -> usize) -> Vec<u8> {
+/// A log of the longest size from a fresh machine. `kind` draws the next record's.
+fn log_of(random: &mut Random, mut kind: impl FnMut(&mut Random) -> usize) -> Vec<u8> {
     let mut machine = Machine::fresh(SETUP).expect("the setup byte is good");
     let mut bytes = Vec::with_capacity(RECORDS * RECORD_BYTES);
     for _ in 0..RECORDS {
-        let mut next = record(operation(random), random);
+        let mut next = record(kind(random), random);
         for _ in 1..DRAWS {
             if machine.clone().step(&next).0 == OK {
                 break;
             }
-            next = record(operation(random), random);
+            next = record(kind(random), random);
         }
         machine.step(&next);
         bytes.extend(next);
@@ -77,14 +91,14 @@ fn log_of(random: &mut Random, mut operation: impl FnMut(&mut Random) -> usize) 
     bytes
 }
 
-/// Every operation in turn, at random.
+/// Every kind in turn, at random.
 pub fn mixed(random: &mut Random) -> Vec<u8> {
     log_of(random, drawn)
 }
 
-/// One operation only.
-pub fn only(operation: usize, random: &mut Random) -> Vec<u8> {
-    log_of(random, |_| operation)
+/// One kind only.
+pub fn only(kind: usize, random: &mut Random) -> Vec<u8> {
+    log_of(random, |_| kind)
 }
 
 /// CPU 0 comes up, thread 0 is put on it, and every other record unwinds the two: accepted, over all locks, with none to free.
@@ -92,8 +106,8 @@ pub fn unwind_running() -> Vec<u8> {
     let mut bytes = vec![0; RECORDS * RECORD_BYTES];
     for (at, record) in bytes.chunks_exact_mut(RECORD_BYTES).enumerate() {
         let name = ["up", "put"].get(at).unwrap_or(&"unwind");
-        let operation = OPERATIONS.iter().position(|of| of == name).expect("an operation");
-        record[0] = (operation as u8) << 4;
+        let number = KINDS.iter().position(|of| of == name).expect("an operation");
+        record[0] = (number as u8) << 4;
     }
     bytes
 }

@@ -12,7 +12,7 @@ use std::time::Instant;
 
 use baseline::{ANSWER_BYTES, OK, RECORD_BYTES};
 use hubcrackle::hubcrackle_run;
-use logs::{OPERATIONS, RECORDS, SETUP};
+use logs::{KINDS, RECORDS, SETUP};
 use random::Random;
 
 type Run = unsafe extern "C" fn(u8, *const u8, usize, *mut u8, usize) -> i32;
@@ -37,7 +37,7 @@ fn run(call: Run, log: &[u8], out: &mut [u8]) -> i32 {
     unsafe { call(SETUP, log.as_ptr(), log.len(), out.as_mut_ptr(), out.len()) }
 }
 
-/// Of the records of an operation: how many were accepted, how many there were, and to how many of the accepted the value is not 0.
+/// Of the records of a kind: how many were accepted, how many there were, and to how many of the accepted the value is not 0.
 #[derive(Clone, Copy, Default)]
 struct Count {
     accepted: usize,
@@ -45,7 +45,7 @@ struct Count {
     valued: usize,
 }
 
-type Counts = [Count; OPERATIONS.len()];
+type Counts = [Count; KINDS.len()];
 
 /// Runs each log both ways, ends the process where a byte differs, and counts the accepted records.
 fn compare(logs: &[Vec<u8>]) -> Counts {
@@ -59,7 +59,7 @@ fn compare(logs: &[Vec<u8>]) -> Counts {
         let differs = ours.chunks(ANSWER_BYTES).zip(theirs.chunks(ANSWER_BYTES)).position(|(ours, theirs)| ours != theirs);
         assert_eq!(differs, None, "the two answers to this record of a log differ");
         for (record, answer) in log.chunks_exact(RECORD_BYTES).zip(ours.chunks_exact(ANSWER_BYTES)) {
-            let count = &mut counts[usize::from(record[0] >> 4)];
+            let count = &mut counts[logs::kind_of(record)];
             let accepted = answer[..4] == OK.to_be_bytes();
             count.accepted += usize::from(accepted);
             count.all += 1;
@@ -94,10 +94,10 @@ fn row(name: &str, logs: &[Vec<u8>], count: usize, goal: f64) -> bool {
     ours / theirs <= goal
 }
 
-/// Prints how often each operation of the mixed logs is accepted. The process ends if one never is, or if no unwind frees a lock.
+/// Prints how often each kind of record of the mixed logs is accepted. The process ends if one never is, or if no unwind frees a lock.
 fn print_accepted(mixed: &[Vec<u8>]) {
     print!("accepted in the mixed logs:");
-    for (name, Count { accepted, all, valued }) in OPERATIONS.iter().zip(compare(mixed)) {
+    for (name, Count { accepted, all, valued }) in KINDS.iter().zip(compare(mixed)) {
         assert!(accepted > 0, "{name} is never accepted: the logs do not keep it busy");
         print!(" {name} {accepted}/{all}");
         if *name == "unwind" {
@@ -114,8 +114,8 @@ fn main() {
     println!("{LOGS} logs of {RECORDS} records, best of {ROUNDS} rounds; ns a record, and of the empty log ns a run");
     println!("{:<15} {:>12} {:>10} {:>10} {:>7} {:>5}", "log", "accepted", "proved", "baseline", "ratio", "goal");
     let mut met = Vec::new();
-    for (operation, name) in OPERATIONS.iter().enumerate() {
-        let only: Vec<_> = (0..LOGS).map(|_| logs::only(operation, &mut random)).collect();
+    for (kind, name) in KINDS.iter().enumerate() {
+        let only: Vec<_> = (0..LOGS).map(|_| logs::only(kind, &mut random)).collect();
         let goal = if *name == "unwind" { UNWIND_GOAL } else { ONLY_GOAL };
         met.push(row(&format!("{name} only"), &only, RECORDS, goal));
     }

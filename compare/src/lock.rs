@@ -17,6 +17,14 @@ const LOGS: usize = 1_500;
 const RECORDS: usize = 2_048;
 const RECORD_BYTES: usize = 12;
 const ANSWER_BYTES: usize = 8;
+/// Where A's last byte stands in a record: of an acquire whether it is nested.
+const FLAG_AT: usize = 7;
+
+const UP: u8 = 0;
+const PUT: u8 = 2;
+const ACQUIRE: u8 = 4;
+const RELEASE: u8 = 6;
+const OWNER: u8 = 11;
 
 /// Up, and thread 7 c + 1 put on CPU c.
 const OPENING: usize = 2 * CPUS as usize;
@@ -46,12 +54,18 @@ impl Log {
         self.answers.extend(value.to_be_bytes());
     }
 
+    /// The last record has its flag set.
+    fn set_flag(&mut self) {
+        let last = self.records.len() - RECORD_BYTES;
+        self.records[last + FLAG_AT] = 1;
+    }
+
     /// Every CPU with its thread.
     fn opened() -> Log {
         let mut log = Log { records: vec![], answers: vec![] };
         for cpu in 0..CPUS as u8 {
-            log.add(0, cpu, 0, 0, OK, 0);
-            log.add(2, cpu, thread_of(cpu), 0, OK, 0);
+            log.add(UP, cpu, 0, 0, OK, 0);
+            log.add(PUT, cpu, thread_of(cpu), 0, OK, 0);
         }
         log
     }
@@ -63,7 +77,7 @@ impl Log {
         let differs = room.chunks(ANSWER_BYTES).zip(self.answers.chunks(ANSWER_BYTES)).position(|(a, b)| a != b);
         if let Some(at) = differs {
             let bytes = at * ANSWER_BYTES..(at + 1) * ANSWER_BYTES;
-            let asked = &self.records[at * RECORD_BYTES..][..4];
+            let asked = &self.records[at * RECORD_BYTES..][..RECORD_BYTES];
             eprintln!("record {at} ({asked:x?}): answer {:x?}; expected {:x?}", &room[bytes.clone()], &self.answers[bytes]);
             std::process::exit(1);
         }
@@ -82,16 +96,23 @@ fn compare_log(tally: &mut Tally, random: &mut Random) -> u64 {
         let (cpu, lock) = if alone { (1, 0) } else { (random.below(CPUS) as u8, random.below(LOCKS) as u8) };
         let thread = thread_of(cpu);
         let state = &mut states[usize::from(lock)];
-        let (op, code) = match random.below(8) {
-            0 => (4, state.acquire(thread)),
-            share if share <= releases => (6, state.release(thread)),
+        match random.below(8) {
+            0 => {
+                let code = state.acquire(thread);
+                log.add(ACQUIRE, cpu, 0, lock, code, state.nest_depth());
+            }
+            share if share <= releases => {
+                let code = state.release(thread);
+                log.add(RELEASE, cpu, 0, lock, code, state.nest_depth());
+            }
             _ => {
                 full += u64::from(state.is_owner(thread) && state.nest_depth() == MAX_NEST_DEPTH);
-                (5, state.acquire_nested(thread))
+                let code = state.acquire_nested(thread);
+                log.add(ACQUIRE, cpu, 0, lock, code, state.nest_depth());
+                log.set_flag();
             }
-        };
-        log.add(op, cpu, 0, lock, code, state.nest_depth());
-        log.add(11, 0, 0, lock, OK, word_of(state.owner_get()));
+        }
+        log.add(OWNER, 0, 0, lock, OK, word_of(state.owner_get()));
         assert_eq!(state.irq_saved, state.nest_depth() > 0, "upstream's irq flag is not set exactly while the lock is held");
         tally.count(Kind::Compared);
         tally.count(Kind::Compared);

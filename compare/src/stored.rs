@@ -1,5 +1,5 @@
 //! The calls on one lock record, which are not exported: every line that the program `single_calls` has of them, against upstream's bodies. The
-//! lines are its stored output, to which the gate holds it. A line has the call, the record, the thread if there is one, and the answer, where a
+//! lines are its stored output, to which the gate holds it. A line has the call, the record, the thread and the flag if there are any, and the answer, where a
 //! record is shown with owner, depth and irq flag.
 
 use std::collections::BTreeSet;
@@ -13,8 +13,8 @@ use crate::tally::{Kind, Tally};
 
 const LINES: &str = include_str!("../../crates/single_calls/stdout");
 
-const CALLS: [&str; 11] =
-    ["new", "acquire", "acquire_nested", "release", "acquire_check", "release_check", "is_owner", "is_held", "is_free", "nest_depth", "owner_get"];
+const CALLS: [&str; 10] =
+    ["new", "acquire", "release", "acquire_check", "release_check", "is_owner", "is_held", "is_free", "nest_depth", "owner_get"];
 
 /// The number after a word; none if the word is not there, or if "none" follows it.
 fn number(words: &[&str], name: &str) -> Option<u32> {
@@ -44,14 +44,14 @@ fn is_valid(lock: &SpinlockState) -> bool {
     lock.owner.is_some() == (lock.nest_count > 0) && lock.nest_count <= MAX_NEST_DEPTH && (lock.owner.is_some() || !lock.irq_saved)
 }
 
-/// What upstream's body answers.
-fn answered(call: &str, mut lock: SpinlockState, thread: u32) -> String {
+/// What upstream's body answers. It has a body for each kind of acquire.
+fn answered(call: &str, mut lock: SpinlockState, thread: u32, nested: bool) -> String {
     let yes_no = |yes| if yes { "OK yes".into() } else { "OK no".into() };
     let changed = |code, lock| format!("{} {}", code_name(code), shown(lock));
     match call {
         "new" => shown(&SpinlockState::init()),
+        "acquire" if nested => changed(lock.acquire_nested(thread), &lock),
         "acquire" => changed(lock.acquire(thread), &lock),
-        "acquire_nested" => changed(lock.acquire_nested(thread), &lock),
         "release" => changed(lock.release(thread), &lock),
         "acquire_check" => yes_no(lock.acquire_check(thread)),
         "is_owner" | "release_check" => yes_no(lock.is_owner(thread)),
@@ -65,7 +65,7 @@ fn answered(call: &str, mut lock: SpinlockState, thread: u32) -> String {
 /// What a call on an invalid record is answered.
 fn refused(call: &str, lock: &SpinlockState) -> String {
     match call {
-        "acquire" | "acquire_nested" | "release" => format!("EINVAL {}", shown(lock)),
+        "acquire" | "release" => format!("EINVAL {}", shown(lock)),
         "nest_depth" => "EINVAL depth 0".into(),
         "owner_get" => "EINVAL owner none".into(),
         _ => "EINVAL no".into(),
@@ -81,10 +81,10 @@ pub fn compare(tally: &mut Tally) {
         if !CALLS.contains(&call) {
             continue;
         }
-        let [owner, depth, irq, thread] = ["owner", "depth", "irq", "thread"].map(|name| number(&words, name));
+        let [owner, depth, irq, thread, nested] = ["owner", "depth", "irq", "thread", "nested"].map(|name| number(&words, name));
         let lock = SpinlockState { owner, nest_count: depth.unwrap_or(0), irq_saved: irq == Some(1) };
         let (kind, expected) = if is_valid(&lock) {
-            (Kind::Compared, answered(call, lock, thread.unwrap_or(0)))
+            (Kind::Compared, answered(call, lock, thread.unwrap_or(0), nested == Some(1)))
         } else {
             tally.meet(Difference::InvalidRecord);
             (Kind::Excluded, refused(call, &lock))
@@ -97,7 +97,7 @@ pub fn compare(tally: &mut Tally) {
         if call == "release_check" {
             tally.meet(Difference::ReleaseCheck);
         }
-        seen.insert(call);
+        seen.insert((call, nested));
     }
-    assert_eq!(seen.len(), CALLS.len(), "a call on a lock record has no line");
+    assert_eq!(seen.len(), CALLS.len() + 1, "a call on a lock record, or one of the two acquires, has no line");
 }

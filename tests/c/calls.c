@@ -207,21 +207,24 @@ static void interrupts(void)
     TRY(ENOMEM, "", hubcrackle_validate_ipi_mask(2, 0, 4, out, 0));
 }
 
-/* Writes a log of records whose first four bytes are given and whose other eight are zero. Says how long it is. */
-static size_t spread(uint8_t *log, const uint8_t heads[][4], int count)
-{
-    int at;
+/* A record of a log: its first four bytes, and A. Its other bytes are zero. */
+typedef uint8_t head[5];
 
-    for (at = 0; at < count * 12; at++)
-        log[at] = at % 12 < 4 ? heads[at / 12][at % 12] : 0;
+/* Writes a log of such records. Says how long it is. */
+static size_t spread(uint8_t *log, const head *heads, int count)
+{
+    int at, byte;
+
+    for (at = 0; at < count; at++)
+        for (byte = 0; byte < HUBCRACKLE_RECORD_BYTES; byte++)
+            log[at * HUBCRACKLE_RECORD_BYTES + byte] = byte < 4 ? heads[at][byte] : byte == 7 ? heads[at][4] : 0;
     return (size_t)count * HUBCRACKLE_RECORD_BYTES;
 }
 
 static void logs(void)
 {
-    /* "One log entire" of document 01, without the eight zero bytes that end each record. */
-    static const uint8_t heads[][4] = { { 0x00, 0, 0, 0 }, { 0x20, 3, 0, 0 }, { 0x40, 0, 7, 0 }, { 0x50, 0, 7, 0 },
-                                        { 0x30, 3, 0, 0 }, { 0xb0, 0, 7, 0 }, { 0x60, 0, 7, 0 } };
+    /* "One log entire" of document 01; the fourth record is an acquire with A = 1, as document 02 has it. */
+    static const head heads[] = { { 0x00 }, { 0x20, 3 }, { 0x40, 0, 7 }, { 0x40, 0, 7, 0, 1 }, { 0x30, 3 }, { 0xb0, 0, 7 }, { 0x60, 0, 7 } };
     /* Take from an idle CPU, and up twice: refused records have answers too. */
     static const uint8_t refusals[36] = { 0x30, 3, 0, 0, 0, 0, 0, 0, 0, 0, 0, 0, 0x00 };
     uint8_t log[7 * HUBCRACKLE_RECORD_BYTES];
@@ -251,22 +254,44 @@ static void logs(void)
     TRY(ENOMEM, "", hubcrackle_run(0x20, zeros, HUBCRACKLE_LOG_MAX, out, ROOM - 1));
 }
 
+/* One operation acquires, plain or nested by A. */
+static void acquires(void)
+{
+    /* Plain, nested, and plain again, which is EBUSY to the holder; then the forms that are refused: A of 2, the former number of a nested
+     * acquire without and with A, and a nested acquire with B; a release shows that the lock is still two deep. */
+    static const head heads[] = { { 0x00 }, { 0x20, 3 }, { 0x40, 0, 7 }, { 0x40, 0, 7, 0, 1 }, { 0x40, 0, 7 }, { 0x40, 0, 7, 0, 2 },
+                                  { 0x50, 0, 7 }, { 0x50, 0, 7, 0, 1 }, { 0x40, 0, 7, 0, 1 }, { 0x60, 0, 7 } };
+    uint8_t log[10 * HUBCRACKLE_RECORD_BYTES];
+
+    spread(log, heads, 10);
+    log[8 * HUBCRACKLE_RECORD_BYTES + 11] = 1; /* B */
+    TRY(OK,
+        "0000000000000000"
+        "0000000000000000"
+        "0000000000000001"
+        "0000000000000002"
+        "fffffff000000002"
+        "ffffffea00000000"
+        "ffffffea00000000"
+        "ffffffea00000000"
+        "ffffffea00000000"
+        "0000000000000001",
+        hubcrackle_run(0x20, log, sizeof log, out, 80));
+}
+
 /* Locks that are given back by one record, because their job was stopped. */
 static void unwinds(void)
 {
     /* Thread 3 holds lock 7 three deep and cannot be taken. It is unwound and taken, and thread 4 acquires the same lock. */
-    static const uint8_t stopped[][4] = { { 0x00, 0, 0, 0 }, { 0x20, 3, 0, 0 }, { 0x40, 0, 7, 0 }, { 0x50, 0, 7, 0 }, { 0x50, 0, 7, 0 },
-                                          { 0x30, 3, 0, 0 }, { 0xc0, 3, 0, 0 }, { 0x30, 3, 0, 0 }, { 0x20, 4, 0, 0 }, { 0x40, 0, 7, 0 } };
+    static const head stopped[] = { { 0x00 }, { 0x20, 3 }, { 0x40, 0, 7 }, { 0x40, 0, 7, 0, 1 }, { 0x40, 0, 7, 0, 1 },
+                                    { 0x30, 3 }, { 0xc0, 3 }, { 0x30, 3 }, { 0x20, 4 }, { 0x40, 0, 7 } };
     /* CPU 0 holds the first lock and the last, CPU 1 one between. The unwind of one CPU leaves the other's locks. */
-    static const uint8_t two_cpus[][4] = { { 0x00, 0, 0, 0 }, { 0x01, 0, 0, 0 }, { 0x20, 3, 0, 0 }, { 0x21, 4, 0, 0 },
-                                           { 0x40, 0, 0, 0 }, { 0x40, 0, 127, 0 }, { 0x41, 0, 64, 0 }, { 0xc0, 3, 0, 0 },
-                                           { 0xb0, 0, 0, 0 }, { 0xb0, 0, 127, 0 }, { 0xb0, 0, 64, 0 }, { 0xc1, 4, 0, 0 },
-                                           { 0xb0, 0, 64, 0 }, { 0xc1, 4, 0, 0 } };
+    static const head two_cpus[] = { { 0x00 }, { 0x01 }, { 0x20, 3 }, { 0x21, 4 }, { 0x40 }, { 0x40, 0, 127 }, { 0x41, 0, 64 },
+                                     { 0xc0, 3 }, { 0xb0 }, { 0xb0, 0, 127 }, { 0xb0, 0, 64 }, { 0xc1, 4 }, { 0xb0, 0, 64 }, { 0xc1, 4 } };
     /* Nobody on the CPU; with lock 7 held, another thread, and the thread on another CPU; then a form that is wrong in one field each, the number
      * after unwind, and a release, which shows that the lock is still held. */
-    static const uint8_t refused[][4] = { { 0x00, 0, 0, 0 }, { 0xc0, 0, 0, 0 }, { 0x20, 3, 0, 0 }, { 0x40, 0, 7, 0 }, { 0xc0, 4, 0, 0 },
-                                          { 0xc1, 3, 0, 0 }, { 0xc2, 3, 0, 0 }, { 0xc0, 32, 0, 0 }, { 0xc0, 3, 7, 0 }, { 0xc0, 3, 0, 1 },
-                                          { 0xc0, 3, 0, 0 }, { 0xc0, 3, 0, 0 }, { 0xd0, 3, 0, 0 }, { 0x60, 0, 7, 0 } };
+    static const head refused[] = { { 0x00 }, { 0xc0 }, { 0x20, 3 }, { 0x40, 0, 7 }, { 0xc0, 4 }, { 0xc1, 3 }, { 0xc2, 3 }, { 0xc0, 32 },
+                                    { 0xc0, 3, 7 }, { 0xc0, 3, 0, 1 }, { 0xc0, 3, 0, 0, 1 }, { 0xc0, 3 }, { 0xd0, 3 }, { 0x60, 0, 7 } };
     uint8_t log[14 * HUBCRACKLE_RECORD_BYTES];
     size_t log_len;
 
@@ -303,7 +328,6 @@ static void unwinds(void)
         hubcrackle_run(0x20, log, log_len, out, ROOM));
 
     log_len = spread(log, refused, 14);
-    log[10 * HUBCRACKLE_RECORD_BYTES + 7] = 1;  /* A */
     log[11 * HUBCRACKLE_RECORD_BYTES + 11] = 1; /* B */
     TRY(OK,
         "0000000000000000"
@@ -341,6 +365,7 @@ int main(void)
     masks();
     interrupts();
     logs();
+    acquires();
     unwinds();
     longest_log();
     printf("%d calls, %d wrong\n", calls, wrong);

@@ -1,6 +1,6 @@
 -- A refused call in place leaves the caller's record as it was, be the record invalid, busy or another's. The premise is the statement of the
--- three calls: `acquire`, `acquireNested` and `release` are `operate` at the three operations, nobody elsewhere. What spinlock shows of the rules gives the
--- rest. Assumes nothing.
+-- two calls: `acquire` and `release` are `operate` at their operations, nobody elsewhere. What spinlock shows of the rules gives the rest.
+-- Assumes nothing.
 use mathlib.Core.Path.{_≡_, _∙_}
 use mathlib.Core.Bool.{false}
 use Prim.Native.Nat.{ℕ}

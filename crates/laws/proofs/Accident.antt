@@ -22,12 +22,12 @@ use Rattle.log_tests.specs.RunCode.{runCode}
 use Rattle.runner.specs.Run.{roomAt, ran, ranRoom}
 use Rattle.setup_run.specs.Run.{codeFromSetup, roomFromSetup}
 use Rattle.program.specs.Program.{inputCode, respondRoom}
-use Rattle.laws.specs.Marked.{opened, zeros, busy}
+use Rattle.laws.specs.Marked.{opened, flagged, zeros, busy}
 use Rattle.laws.specs.Accident.{comes, stopped, following, accident, accidentAnswers, accidentEnd}
 
 -- What the program writes for the setup byte and the log.
 pub answers : respondRoom (0x20 ∷ accident) (replicate 80 0) ≡ accidentAnswers
-unfolding opened zeros busy comes stopped following accident accidentAnswers bit spinLockComputeOwner spinUnlockValid codeOf after operate validRecord situationAt threadMask
+unfolding opened flagged zeros busy comes stopped following accident accidentAnswers bit spinLockComputeOwner spinUnlockValid codeOf after operate validRecord situationAt threadMask
     freshMachine fresh setup fieldsOf rowOf fits requestOf answerBytes written fromSigned up put take lockOp unwind answered next stateAt roomAt
     runCode ran ranRoom codeFromSetup roomFromSetup inputCode respondRoom allBelow sumBelow isPriority wellFormed every collect spread
 answers = refl
@@ -35,6 +35,6 @@ answers = refl
 -- Lock 7 is the next job's, at depth 1, and CPU 0 holds one level.
 pub ends : (lockAt accidentEnd 7 ≡ record { state = record { owner = Thread 4; «nest_count» = 1; «irq_saved» = true }; word = 20 })
     × (cpuAt accidentEnd 0 .hold ≡ 1)
-unfolding opened comes stopped following accident accidentEnd bit spinLockComputeOwner spinUnlockValid codeOf after operate validRecord situationAt threadMask
+unfolding opened flagged comes stopped following accident accidentEnd bit spinLockComputeOwner spinUnlockValid codeOf after operate validRecord situationAt threadMask
     freshMachine fresh setup fieldsOf rowOf fits requestOf up put take lockOp unwind answered next stateAt isPriority every collect spread
 ends = (refl, refl)

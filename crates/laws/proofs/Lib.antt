@@ -8,3 +8,5 @@ pub mod Exclusion
 pub mod NothingLost
 pub mod StoppedJob
 pub mod Accident
+pub mod FormerRows
+pub mod OneAcquire

@@ -20,11 +20,11 @@ use Rattle.log_tests.specs.RunCode.{runCode}
 use Rattle.runner.specs.Run.{roomAt, ran, ranRoom}
 use Rattle.setup_run.specs.Run.{codeFromSetup, roomFromSetup}
 use Rattle.program.specs.Program.{inputCode, respondRoom}
-use Rattle.laws.specs.Marked.{Holds, table, all, at, cpu, cpus, opened, workedLog, zeros, busy, workedAnswers, workedEnd}
+use Rattle.laws.specs.Marked.{Holds, table, all, at, cpu, cpus, opened, flagged, workedLog, zeros, busy, workedAnswers, workedEnd}
 
 pub marked : Holds table
 unfolding Holds table at cpu cpus all ones onesIn bit bitsOf spinLockComputeOwner spinLockDecodeOwner spinLockValid codeOf after operate validRecord
-    situationAt cpuMaskMod cpuPinCompute computeIpiMask gets opened workedLog zeros busy workedAnswers workedEnd threadMask freshMachine fresh setup
+    situationAt cpuMaskMod cpuPinCompute computeIpiMask gets opened flagged workedLog zeros busy workedAnswers workedEnd threadMask freshMachine fresh setup
     fieldsOf rowOf fits requestOf answerBytes written fromSigned up put take lockOp owner answered next stateAt roomAt runCode ran ranRoom
     codeFromSetup roomFromSetup inputCode respondRoom allBelow sumBelow isPriority wellFormed spinUnlockValid
 marked = (eq, (eq, (eq, (eq, (eq, (eq, (eq, (eq, (eq, (eq, (eq, (eq, (eq, (eq, (eq, (eq, (eq, (eq, (eq, (eq, tt))))))))))))))))))))

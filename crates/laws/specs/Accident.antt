@@ -6,11 +6,11 @@ use Prim.Native.Nat.{ℕ}
 use Rattle.machine.specs.State.{setup}
 use Rattle.machine.specs.declared.Machine.{Machine}
 use Rattle.operations.specs.Log.{stateAt}
-use Rattle.laws.specs.Marked.{opened, zeros, busy}
+use Rattle.laws.specs.Marked.{opened, flagged, zeros, busy}
 
--- Thread 3 comes and nests: up, put, acquire, nested, nested.
+-- Thread 3 comes and nests: up, put, an acquire, and two nested ones.
 unfoldable pub comes : List ℕ
-comes = opened 0x00 0 0 ++ (opened 0x20 3 0 ++ (opened 0x40 0 7 ++ (opened 0x50 0 7 ++ opened 0x50 0 7)))
+comes = opened 0x00 0 0 ++ (opened 0x20 3 0 ++ (opened 0x40 0 7 ++ (flagged 0x40 0 7 ++ flagged 0x40 0 7)))
 
 -- It is stopped: take, unwind, take.
 unfoldable pub stopped : List ℕ

@@ -10,7 +10,7 @@ use lib.ListN.{replicate}
 use Rattle.error.specs.Codes.{OK, EBUSY, EINVAL}
 use Rattle.error.specs.Answer.{answer}
 use Rattle.spinlock_validate.specs.Owner.{tagBits, nobody, heldBy, spinLockComputeOwner, spinLockDecodeOwner, spinLockValid}
-use Rattle.spinlock.specs.Lock.{acquireNested}
+use Rattle.spinlock.specs.Lock.{acquire}
 use Rattle.spinlock.specs.declared.Owner.the-variants.{Thread}
 use Rattle.spinlock.specs.declared.SpinlockState.{SpinlockState}
 use Rattle.cpu_mask.specs.Mask.{cpuMaskMod, cpuPinCompute}
@@ -50,9 +50,13 @@ cpus = cpu true 9 ∷ cpu true 9 ∷ cpu true 5 ∷ cpu false 9 ∷ replicate 12
 unfoldable pub opened : ℕ → ℕ → ℕ → List ℕ
 opened a b c = a ∷ b ∷ c ∷ 0 ∷ replicate 8 0
 
+-- But that of the fourth A is 1: by 02's second request it is an acquire, nested.
+unfoldable pub flagged : ℕ → ℕ → ℕ → List ℕ
+flagged a b c = a ∷ b ∷ c ∷ 0 ∷ 0 ∷ 0 ∷ 0 ∷ 1 ∷ replicate 4 0
+
 unfoldable pub workedLog : List ℕ
 workedLog =
-    opened 0x00 0 0 ++ (opened 0x20 3 0 ++ (opened 0x40 0 7 ++ (opened 0x50 0 7 ++ (opened 0x30 3 0 ++ (opened 0xb0 0 7 ++ opened 0x60 0 7)))))
+    opened 0x00 0 0 ++ (opened 0x20 3 0 ++ (opened 0x40 0 7 ++ (flagged 0x40 0 7 ++ (opened 0x30 3 0 ++ (opened 0xb0 0 7 ++ opened 0x60 0 7)))))
 
 -- The answers of 01: a code's four bytes and a value's.
 unfoldable pub zeros : ℕ → List ℕ
@@ -86,8 +90,8 @@ table =
     ∷ M 7 (cpuPinCompute 31 32) (answer OK 2147483648)
     ∷ M 7 (cpuPinCompute 32 33) (answer EINVAL 0)
     ∷ M 7 (cpuPinCompute 0 0) (answer EINVAL 0)
-    ∷ M 8 (acquireNested (at 254) 9) (answer OK (at 255))
-    ∷ M 8 (acquireNested (at 255) 9) (answer EBUSY (at 255))
+    ∷ M 8 (acquire (at 254) 9 true) (answer OK (at 255))
+    ∷ M 8 (acquire (at 255) 9 true) (answer EBUSY (at 255))
     ∷ M 9 (computeIpiMask 0 (pos 5) 15 cpus 4 4) (answer OK 2)
     ∷ M 10 (computeIpiMask 0 (pos 2147483647) 15 cpus 4 4) (answer OK 0)
     ∷ M 11 (respondRoom (0x20 ∷ workedLog) (replicate 56 0)) workedAnswers

@@ -91,7 +91,7 @@ take-coded t h r k =
     either CodedOutcome (not (isCurrent (r .current) t)) _ _ (is-code Code.Eperm)
     (either CodedOutcome (not (eqb h 0)) _ _ (is-code Code.Ebusy) (is-code Code.Ok))
 
--- Operations 4, 5 and 6, by the table of codes.
+-- Operations 4 and 6, by the table of codes.
 table-code : (op : LockOperation) (sit : Situation) → IsCode (codeOf op sit)
 unfolding codeOf
 table-code (LockOperation.Acquire nested) Situation.Free = is-code Code.Ok

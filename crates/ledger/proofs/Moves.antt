@@ -22,7 +22,7 @@ use Rattle.kept.proofs.Walk.{leaves, Ways, Told, walked}
 use Rattle.kept.proofs.Tagged.{cpu-fits}
 use Rattle.kept.proofs.Depths.{hold-most}
 use Rattle.kept.proofs.Locked.{named, hold-least, word-held, word-made, lock-valid}
-use Rattle.ledger.specs.Ledger.{acquire, kindOf, up, down, Last, from, lastBy}
+use Rattle.ledger.specs.Ledger.{kindOf, up, down, Last, from, lastBy}
 
 -- While a lock is held, the last accepted acquire of it came from the CPU in its word.
 abbrev pub LastIn : Machine → Lock → Last → Type 0

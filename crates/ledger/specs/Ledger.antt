@@ -17,11 +17,11 @@ use Rattle.record.specs.declared.Request.{Request}
 use Rattle.operations.specs.Log.{recordAt}
 use Rattle.rearranged.specs.Rearranged.{place}
 
--- An acquire (4 and 5) or a release (6).
+-- An acquire (4) or a release (6).
 pub data Kind : Type 0 where
   acquire release : Kind
 
--- Which of the two an operation on a lock is: 5 counts as an acquire.
+-- Which of the two an operation on a lock is: a plain acquire and a nested one are both an acquire.
 abbrev pub kindOf : LockOperation → Kind
 kindOf (LockOperation.Acquire nested) = acquire
 kindOf LockOperation.Release = release

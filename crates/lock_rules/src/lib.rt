@@ -1,5 +1,5 @@
-// The operations of a log on a lock: acquire, nested acquire, release, and a look at its owner word. Each is a small function from the values of
-// the cells that it names to their new values and an answer. A rule never sees the machine, so it reads and writes nothing else.
+// The operations of a log on a lock: acquire, release, and a look at its owner word. Each is a small function from the values of the cells that
+// it names to their new values and an answer. A rule never sees the machine, so it reads and writes nothing else.
 //
 // New here; the definitions are in the crate rules, the lock's rule goes by the crate spinlock, the owner word by spinlock_validate. A refusal
 // hands every cell back as it was.
@@ -164,7 +164,7 @@ fn no_thread(cpu: Cpu, lock: Lock) -> LockOut
     }
 }
 
-// 4, 5 and 6, on a machine of this setup: the CPU and the lock after its current thread's acquire, nested acquire or release.
+// 4 and 6, on a machine of this setup: the CPU and the lock after its current thread's acquire, plain or nested, or release.
 pub fn on_lock(setup: Setup, operation: Operation, c: CpuId, cpu: Cpu, lock: Lock) -> LockOut
     ensures { λ r. ⌜ lockSays r ≡ ranged (hasCpu setup (c .0)) (cpu, lock) (onLock setup operation (c .0) cpu lock) ⌝ }
 {

@@ -45,7 +45,7 @@ onCpu CpuOperation.Down c t = record { reads = []; writes = run c ∷ []; body =
 onCpu CpuOperation.Put c t = record { reads = []; writes = run c ∷ thread t ∷ []; body = λ r k. two (Rules.put c t r k) }
 onCpu CpuOperation.Take c t = record { reads = hold c ∷ []; writes = run c ∷ thread t ∷ []; body = λ h r k. two (Rules.take t h r k) }
 
--- 4, 5 and 6.
+-- 4 and 6.
 abbrev pub onLock : Setup → LockOperation → ℕ → ℕ → Op machineStore (Answer ℕ)
 onLock s op c l =
     record { reads = run c ∷ []; writes = lock l ∷ hold c ∷ []; body = λ r k h. withHold op h (Rules.lockOp s op c r k) }

@@ -18,7 +18,7 @@ rowOnCpu CpuOperation.Down c t = record { reads = []; writes = run c ∷ [] }
 rowOnCpu CpuOperation.Put c t = record { reads = []; writes = run c ∷ thread t ∷ [] }
 rowOnCpu CpuOperation.Take c t = record { reads = hold c ∷ []; writes = run c ∷ thread t ∷ [] }
 
--- 4, 5 and 6.
+-- 4 and 6.
 abbrev pub rowOnLock : LockOperation → ℕ → ℕ → Footprint Cell
 rowOnLock (LockOperation.Acquire nested) c l = record { reads = run c ∷ []; writes = lock l ∷ hold c ∷ [] }
 rowOnLock LockOperation.Release c l = record { reads = run c ∷ []; writes = lock l ∷ hold c ∷ [] }

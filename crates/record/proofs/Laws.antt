@@ -8,10 +8,10 @@ use mathlib.Core.List.{List, [], _∷_, _++_}
 use Prim.Native.Nat.{ℕ, zero, suc, _+_, _*_, _/_, _%_, _^_, _<_}
 use native.Mathlib.Nat.{suc-ne-zero, suc-inj}
 use native.Mathlib.Omega.{arith}
-use lib.Dec.{eqb, leb, lit<}
+use lib.Dec.{eqb, ltb, leb, lit<}
 use lib.IntN.{ℤ, pos, negsuc}
 use lib.ListN.{length, getD, drop}
-use borrow.Author.Tests.{eqb-true, leb-true}
+use borrow.Author.Tests.{eqb-true, eqb-false, ltb-true, leb-true}
 use Rattle.words.specs.HighFirst.{highFirst, fromHighFirst}
 use Rattle.words.specs.Signed.{toSigned, fromSigned, SignedFits}
 use Rattle.words.proofs.Choice.{bool-ind, and-left, and-right}
@@ -102,6 +102,11 @@ decode-encode k r ok h =
     packed-back (wire (r .operation) .0) (r .cpu .0) (r .thread .0) (r .lock .0) (wire (r .operation) .1) (wire (r .operation) .2) (h .cpu) (h .a) (h .b) k ok
     ∙ rw (h .fit, asks-back (r .operation) (h .priority))
 
+-- A flag is told by whether it is 1.
+flag-is : (a : ℕ) → a < 2 → cond (eqb a 1) 1 0 ≡ a
+flag-is a small =
+    bool-ind (λ t. cond t 1 0 ≡ a) (eqb a 1) (λ e. sym (eqb-true a 1 e)) (λ e. let other = eqb-false a 1 e in omega arith)
+
 -- A row's operation has the row's number, and the A and B that passed its form test.
 abbrev Wires : ℕ → ℕ → ℕ → Row → Type 0
 Wires a b op r = operandOk (r .a) a ≡ true → operandOk (r .b) b ≡ true → (r .asks a b ≡ Operation.Malformed → ⊥) → wire (r .asks a b) ≡ (op, a, b)
@@ -109,6 +114,9 @@ Wires a b op r = operandOk (r .a) a ≡ true → operandOk (r .b) b ≡ true →
 module _ (a b : ℕ) (fitsA : a < 2 ^ 32) where
   no-operands : (op : ℕ) {X : Type 0} → eqb a 0 ≡ true → eqb b 0 ≡ true → X → _≡_ {A = ℕ × ℕ × ℕ} (op, 0, 0) (op, a, b)
   no-operands op e f x = rw (eqb-true a 0 e, eqb-true b 0 f)
+
+  one-flag : {X : Type 0} → ltb a 2 ≡ true → eqb b 0 ≡ true → X → _≡_ {A = ℕ × ℕ × ℕ} (4, cond (eqb a 1) 1 0, 0) (4, a, b)
+  one-flag e f x = rw (flag-is a (ltb-true a 2 e), eqb-true b 0 f)
 
   one-priority : {X : Type 0} → isPriority (toSigned 31 a) ≡ true → eqb b 0 ≡ true → X
       → _≡_ {A = ℕ × ℕ × ℕ} (9, fromSigned 31 (toSigned 31 a), 0) (9, a, b)
@@ -125,9 +133,9 @@ module _ (a b : ℕ) (fitsA : a < 2 ^ 32) where
             (
               no-operands 3,
               (
-                no-operands 4,
+                one-flag,
                 (
-                  no-operands 5,
+                  (λ e f some. absurd (some refl)),
                   (
                     no-operands 6,
                     ((λ e f x. refl), (no-operands 8, (one-priority, (no-operands 10, (no-operands 11, (no-operands 12, tt)))))),
@@ -140,11 +148,11 @@ module _ (a b : ℕ) (fitsA : a < 2 ^ 32) where
       )
 
 -- The first k elements, one after the other: all of a list of that length.
-abbrev firsts : ℕ → List ℕ → List ℕ
+abbrev pub firsts : ℕ → List ℕ → List ℕ
 firsts zero s = []
 firsts (suc k) s = getD s 0 0 ∷ firsts k (drop 1 s)
 
-firsts-all : (k : ℕ) (s : List ℕ) → length s ≡ k → s ≡ firsts k s
+pub firsts-all : (k : ℕ) (s : List ℕ) → length s ≡ k → s ≡ firsts k s
 firsts-all zero [] e = refl
 firsts-all zero (x ∷ s) e = absurd (suc-ne-zero (length s) e)
 firsts-all (suc k) [] e = absurd (suc-ne-zero k (sym e))

@@ -3,7 +3,7 @@
 use mathlib.Core.Path.{_≡_, refl, sym, subst}
 use mathlib.Core.Bool.{Bool, true, false, _&&_, cond}
 use mathlib.Core.List.{List}
-use Prim.Native.Nat.{ℕ, _≤_, _<_}
+use Prim.Native.Nat.{ℕ, _<_}
 use native.Mathlib.Nat.{lt-of-lt-of-le}
 use native.Mathlib.Omega.{arith}
 use lib.Dec.{eqb, leb}
@@ -14,7 +14,6 @@ use Rattle.machine.specs.State.{cpuSlots, threadCount, lockCount, setupOk, isPr
 use Rattle.machine.specs.declared.Setup.{Setup}
 use Rattle.record.specs.Record.{
   Row,
-  rows,
   noRow,
   rowOf,
   fieldOk,
@@ -31,7 +30,7 @@ use Rattle.record.specs.declared.Fields.{Fields}
 use Rattle.record.specs.declared.ThreadOperation.{ThreadOperation}
 use Rattle.record.specs.declared.Operation.{Operation}
 use Rattle.record.specs.declared.Request.{Request}
-use Rattle.record.proofs.Table.{past-row, every-row}
+use Rattle.record.proofs.Table.{every-row}
 
 -- What the form test says, field by field.
 pub record Fit (n : ℕ) (r : Row) (f : Fields) : Type 0 where
@@ -70,14 +69,14 @@ below : (used : Bool) (most x : ℕ) → 0 < most → fieldOk used most x ≡ tr
 below true most x some e = ltb-true x most e
 below false most x some e = omega (arith, ltb-true x 1 e)
 
--- Past the table every field has to be zero, and what that gives is malformed too.
+-- Where no operation stands every field has to be zero, and what that gives is malformed too.
 unused : (most x : ℕ) → fieldOk false most x ≡ true → x ≡ 0
 unused most x e = omega (arith, ltb-true x 1 e)
 
-pub no-row : (n : ℕ) (f : Fields) → length rows ≤ f .operation
+pub no-row : (n : ℕ) (f : Fields) → rowOf (f .operation) ≡ noRow
     → malformed ≡ cond (fits n (rowOf (f .operation)) f) (carried (rowOf (f .operation)) f) malformed
-no-row n f past =
-    subst (λ (r : Row). malformed ≡ cond (fits n r f) (carried r f) malformed) (sym (past-row (f .operation) past))
+no-row n f none =
+    subst (λ (r : Row). malformed ≡ cond (fits n r f) (carried r f) malformed) (sym none)
     (bool-ind (λ t. malformed ≡ cond t (carried noRow f) malformed) (fits n noRow f)
     (λ e.
     let fit = fit-says n noRow f e in

@@ -31,9 +31,9 @@ fieldsOf bs =
       b = fromHighFirst (take 4 (drop 8 bs));
     }
 
--- What A or B may be: zero alone, any mask, or a priority in two's complement.
+-- What A or B may be: zero alone, a flag, any mask, or a priority in two's complement.
 pub data Operand : Type 0 where
-  none mask priority : Operand
+  none flag mask priority : Operand
 
 -- A row of the table: which of cpu, thread and lock an operation uses, what A and B may be, and what it asks for with them.
 pub record Row : Type 0 where
@@ -45,18 +45,22 @@ pub record Row : Type 0 where
   pub asks : ℕ → ℕ → Operation
 
 -- A row, its parts in that order.
-abbrev row : Bool → Bool → Bool → Operand → Operand → (ℕ → ℕ → Operation) → Row
+abbrev pub row : Bool → Bool → Bool → Operand → Operand → (ℕ → ℕ → Operation) → Row
 row cpu thread lock a b asks = record { cpu = cpu; thread = thread; lock = lock; a = a; b = b; asks = asks }
 
--- The table's operations, 0 to 11, and 12 of 02's first request.
+-- The row of a number that stands for no operation.
+abbrev pub noRow : Row
+noRow = row false false false none none (λ a b. Operation.Malformed)
+
+-- The table's operations, 0 to 11, and 12 of 02's first request. By its second, A of an acquire says whether it is nested, and 5 is refused.
 abbrev pub rows : List Row
 rows =
     row true false false none none (λ a b. Operation.OnCpu CpuOperation.Up)
     ∷ row true false false none none (λ a b. Operation.OnCpu CpuOperation.Down)
     ∷ row true true false none none (λ a b. Operation.OnCpu CpuOperation.Put)
     ∷ row true true false none none (λ a b. Operation.OnCpu CpuOperation.Take)
-    ∷ row true false true none none (λ a b. Operation.OnLock (LockOperation.Acquire false))
-    ∷ row true false true none none (λ a b. Operation.OnLock (LockOperation.Acquire true))
+    ∷ row true false true flag none (λ a b. Operation.OnLock (LockOperation.Acquire (eqb a 1)))
+    ∷ noRow
     ∷ row true false true none none (λ a b. Operation.OnLock LockOperation.Release)
     ∷ row false true false mask mask (λ a b. Operation.OnThread (ThreadOperation.Mask a b))
     ∷ row true true false none none (λ a b. Operation.OnThread ThreadOperation.Pin)
@@ -66,11 +70,7 @@ rows =
     ∷ row true true false none none (λ a b. Operation.Unwind)
     ∷ []
 
--- Past the table stands no operation.
-abbrev pub noRow : Row
-noRow = row false false false none none (λ a b. Operation.Malformed)
-
--- The row of an operation's number.
+-- The row of an operation's number. Past the table stands no operation.
 unfoldable pub rowOf : ℕ → Row
 rowOf number = getD rows number noRow
 
@@ -81,10 +81,12 @@ fieldOk used most x = ltb x (cond used most 1)
 -- A or B is what the row says.
 abbrev pub operandOk : Operand → ℕ → Bool
 operandOk none x = eqb x 0
+operandOk flag x = ltb x 2
 operandOk mask x = true
 operandOk priority x = isPriority (toSigned 31 x)
 
--- Used fields in range (cpu below n, thread below 32, lock below 128, A of a priority within -128..127), all else zero.
+-- Used fields in range (cpu below n, thread below 32, lock below 128, A of an acquire 0 or 1, A of a priority within -128..127), all else
+-- zero.
 unfoldable pub fits : ℕ → Row → Fields → Bool
 fits n r f =
     fieldOk (r .cpu) n (f .cpu)
@@ -142,8 +144,7 @@ wire (Operation.OnCpu CpuOperation.Up) = (0, 0, 0)
 wire (Operation.OnCpu CpuOperation.Down) = (1, 0, 0)
 wire (Operation.OnCpu CpuOperation.Put) = (2, 0, 0)
 wire (Operation.OnCpu CpuOperation.Take) = (3, 0, 0)
-wire (Operation.OnLock (LockOperation.Acquire false)) = (4, 0, 0)
-wire (Operation.OnLock (LockOperation.Acquire true)) = (5, 0, 0)
+wire (Operation.OnLock (LockOperation.Acquire nested)) = (4, cond nested 1 0, 0)
 wire (Operation.OnLock LockOperation.Release) = (6, 0, 0)
 wire (Operation.OnThread (ThreadOperation.Mask enable disable)) = (7, enable, disable)
 wire (Operation.OnThread ThreadOperation.Pin) = (8, 0, 0)

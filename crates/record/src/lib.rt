@@ -1,7 +1,8 @@
 // The records of a log: twelve bytes become a request.
 //
-// New here: upstream has no log. Document 01, "Log records": the form test and the fields that each operation uses. A caller can rely on
-// these: every number of a request is in range (proofs/Range.antt), and one that is not `Malformed` has one encoding (proofs/Laws.antt).
+// New here: upstream has no log. Document 01, "Log records": the form test and the fields that each operation uses; of document 02 are unwind, 12,
+// and that an acquire is plain or nested by A, where 5 was the nested one. A caller can rely on these: every number of a request is in range
+// (proofs/Range.antt), and one that is not `Malformed` has one encoding (proofs/Laws.antt).
 ghost use mathlib.Core.Path.{_≡_};
 ghost use mathlib.Core.Bool.{cond};
 ghost use Prim.Native.Nat.{_+_, _<_, _≤_};
@@ -65,11 +66,13 @@ pub struct Request {
 
 // Which operations use which fields, a column of the table for each field: bit i stands for operation i. One rule ties the columns to the
 // rows of the table (proofs/Table.antt).
-const USES_CPU: u32 = 0x157f;
+const USES_CPU: u32 = 0x155f;
 
 const USES_THREAD: u32 = 0x178c;
 
-const USES_LOCK: u32 = 0x870;
+const USES_LOCK: u32 = 0x850;
+
+const A_IS_FLAG: u32 = 0x010;
 
 const A_IS_MASK: u32 = 0x080;
 
@@ -140,8 +143,9 @@ fn a_fits(operation: u32, a: u32) -> bool
     requires { ⌜ operation < 16 ⌝ }
     ensures { λ r. ⌜ r ≡ operandOk (rowOf operation .a) a ⌝ }
 {
+    let flag = uses(A_IS_FLAG, operation) & (a < 2);
     let priority = uses(A_IS_PRIORITY, operation) & machine::is_priority(high_first::signed(a));
-    (a == 0) | uses(A_IS_MASK, operation) | priority
+    (a == 0) | flag | uses(A_IS_MASK, operation) | priority
 }
 
 // Whether B is what the operation takes.
@@ -208,13 +212,10 @@ fn carried(n: u32, f: Fields) -> Request
         2 => formed(n, 2, f, Operation::OnCpu(CpuOperation::Put)),
         3 => formed(n, 3, f, Operation::OnCpu(CpuOperation::Take)),
         4 => {
-            let plain = spinlock::Operation::Acquire { nested: false };
-            formed(n, 4, f, Operation::OnLock(plain))
+            let acquire = spinlock::Operation::Acquire { nested: a == 1 };
+            formed(n, 4, f, Operation::OnLock(acquire))
         }
-        5 => {
-            let nested = spinlock::Operation::Acquire { nested: true };
-            formed(n, 5, f, Operation::OnLock(nested))
-        }
+        5 => formed(n, 5, f, Operation::Malformed),
         6 => formed(n, 6, f, Operation::OnLock(spinlock::Operation::Release)),
         7 => {
             let masks = ThreadOperation::Mask {

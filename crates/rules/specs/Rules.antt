@@ -132,8 +132,8 @@ onCpu CpuOperation.Down c t cpu thread = withRun (appliedTo (cpu .run) (down (cp
 onCpu CpuOperation.Put c t cpu thread = withSeat (appliedTo (cpu .run, thread) (put c t (cpu .run) thread)) cpu
 onCpu CpuOperation.Take c t cpu thread = withSeat (appliedTo (cpu .run, thread) (take t (cpu .hold) (cpu .run) thread)) cpu
 
--- In ops 5 and 6 ownership needs thread and CPU of the word: a thread is elsewhere unless the word is its own on this CPU, and elsewhere the
--- right thread is as another one.
+-- In a nested acquire and a release ownership needs thread and CPU of the word: a thread is elsewhere unless the word is its own on this CPU,
+-- and elsewhere the right thread is as another one.
 abbrev pub elsewhere : Setup → ℕ → ℕ → Lock → Bool
 elsewhere s c t lock = not (spinUnlockValid (tagBits s) (lock .word) c (threadWord s t) .value)
 
@@ -158,7 +158,7 @@ lockBy s op c Current.None lock = refused EINVAL (lock .state .«nest_count»)
 lockBy s op c (Current.Thread t) lock =
     cond (isThread (t .0)) (settled s c (t .0) lock (ruled s op c (t .0) lock)) (refused EINVAL (lock .state .«nest_count»))
 
--- 4 acquire, 5 nested, 6 release.
+-- 4 acquire, 6 release.
 unfoldable pub lockOp : Setup → Operation → ℕ → Run → Lock → Outcome (Answer ℕ) Lock
 lockOp s op c run lock = lockBy s op c (run .current) lock
 
@@ -166,7 +166,7 @@ lockOp s op c run lock = lockBy s op c (run .current) lock
 abbrev pub oneMore : ℕ → ℕ
 oneMore hold = cond (ltb hold 0xffff_ffff) (hold + 1) hold
 
--- An acquire (5 counts as one) or a release moves a hold by one.
+-- An acquire of either kind or a release moves a hold by one.
 abbrev pub moved : Operation → ℕ → ℕ
 moved (Operation.Acquire nested) hold = oneMore hold
 moved Operation.Release hold = hold - 1

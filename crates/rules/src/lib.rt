@@ -1,4 +1,4 @@
-// The thirteen operations of a log as definitions, each a function from the values of the cells that it names to their new values and an answer,
+// The twelve operations of a log as definitions, each a function from the values of the cells that it names to their new values and an answer,
 // and the results that their code gives. A rule never sees the machine, so it reads and writes nothing else.
 //
 // New here; the lock's rule goes by the crate spinlock, the owner word by spinlock_validate, masks by cpu_mask, interrupts by ipi. The code is in

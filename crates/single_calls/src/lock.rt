@@ -31,13 +31,24 @@ fn asked(name: &[u8], s: SpinlockState, tid: u32) {
     show::argument(b"thread", tid as u64);
 }
 
-fn changed(name: &[u8], s: SpinlockState, tid: u32, r: Changed) {
-    asked(name, s, tid);
+// What a call that changes the record gave.
+fn changed(r: Changed) {
     let code = r.code;
     show::code(code);
     let after = r.state;
     state(after);
     show::end();
+}
+
+fn acquired(name: &[u8], s: SpinlockState, tid: u32, nested: bool, r: Changed) {
+    asked(name, s, tid);
+    show::flag(b"nested", nested);
+    changed(r);
+}
+
+fn released(name: &[u8], s: SpinlockState, tid: u32, r: Changed) {
+    asked(name, s, tid);
+    changed(r);
 }
 
 fn answered(name: &[u8], s: SpinlockState, tid: u32, r: YesNo) {
@@ -50,9 +61,9 @@ fn answered(name: &[u8], s: SpinlockState, tid: u32, r: YesNo) {
 
 // Every call by one thread on one record.
 fn by_thread(s: SpinlockState, tid: u32) {
-    changed(b"acquire", s, tid, s.acquire(tid));
-    changed(b"acquire_nested", s, tid, s.acquire_nested(tid));
-    changed(b"release", s, tid, s.release(tid));
+    acquired(b"acquire", s, tid, false, s.acquire(tid, false));
+    acquired(b"acquire", s, tid, true, s.acquire(tid, true));
+    released(b"release", s, tid, s.release(tid));
     answered(
         b"acquire_check",
         s,
@@ -69,21 +80,22 @@ fn by_thread(s: SpinlockState, tid: u32) {
     elsewhere(s, tid);
 }
 
-// The three operations by a thread on another CPU than it took the lock on, if it did.
-fn elsewhere(s: SpinlockState, tid: u32) {
-    changed(
+// An acquire by a thread on another CPU than it took the lock on, if it did.
+fn acquire_elsewhere(s: SpinlockState, tid: u32, nested: bool) {
+    acquired(
         b"acquire_elsewhere",
         s,
         tid,
-        s.operate(Operation::Acquire { nested: false }, tid, true),
+        nested,
+        s.operate(Operation::Acquire { nested }, tid, true),
     );
-    changed(
-        b"nested_elsewhere",
-        s,
-        tid,
-        s.operate(Operation::Acquire { nested: true }, tid, true),
-    );
-    changed(
+}
+
+// Both acquires and a release by such a thread.
+fn elsewhere(s: SpinlockState, tid: u32) {
+    acquire_elsewhere(s, tid, false);
+    acquire_elsewhere(s, tid, true);
+    released(
         b"release_elsewhere",
         s,
         tid,

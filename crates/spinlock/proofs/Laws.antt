@@ -27,7 +27,6 @@ use Rattle.spinlock.specs.Lock.{
   after,
   operate,
   acquire,
-  acquireNested,
   release,
   held,
   owns,
@@ -172,7 +171,7 @@ release-undoes nested s tid elsewhere =
     refl
 
 -- A plain acquire of the free record and a release are back at the free record.
-pub acquire-then-release : (tid : ℕ) → (acquire freeRecord tid ≡ answer OK (takenBy tid)) × (release (takenBy tid) tid ≡ answer OK freeRecord)
+pub acquire-then-release : (tid : ℕ) → (acquire freeRecord tid false ≡ answer OK (takenBy tid)) × (release (takenBy tid) tid ≡ answer OK freeRecord)
 unfolding operate validRecord situationAt codeOf after
 acquire-then-release tid = (refl, release-held (takenBy tid) tid (taken-held tid))
 
@@ -182,7 +181,7 @@ at-depth-held : (n tid : ℕ) → suc n ≤ maxNestDepth → HeldBy (atDepth (su
 at-depth-held n tid h = record { owner = refl; some = omega arith; most = h }
 
 -- Below 255 a nested acquire goes one deeper.
-pub nested-deeper : (n tid : ℕ) → n < maxNestDepth → acquireNested (atDepth n tid) tid ≡ answer OK (atDepth (suc n) tid)
+pub nested-deeper : (n tid : ℕ) → n < maxNestDepth → acquire (atDepth n tid) tid true ≡ answer OK (atDepth (suc n) tid)
 unfolding operate validRecord situationAt codeOf after
 nested-deeper zero tid h = refl
 nested-deeper (suc n) tid h =
@@ -191,7 +190,7 @@ nested-deeper (suc n) tid h =
     ∙ ap (λ (d : ℕ). answer OK (record { owner = Thread tid; «nest_count» = d; «irq_saved» = true })) (add-one (suc n))
 
 -- At 255 it goes no further.
-pub nested-no-further : (tid : ℕ) → acquireNested (atDepth maxNestDepth tid) tid ≡ answer EBUSY (atDepth maxNestDepth tid)
+pub nested-no-further : (tid : ℕ) → acquire (atDepth maxNestDepth tid) tid true ≡ answer EBUSY (atDepth maxNestDepth tid)
 unfolding operate validRecord situationAt codeOf after
 nested-no-further tid = rw (eq-eqb tid tid refl)
 
@@ -206,7 +205,7 @@ release-back n tid h = release-held (atDepth (suc n) tid) tid (at-depth-held n t
 -- The record after n nested acquires, and after k releases.
 abbrev pub nestedTimes : ℕ → ℕ → SpinlockState → SpinlockState
 nestedTimes zero tid s = s
-nestedTimes (suc n) tid s = acquireNested (nestedTimes n tid s) tid .value
+nestedTimes (suc n) tid s = acquire (nestedTimes n tid s) tid true .value
 
 abbrev pub releasedTimes : ℕ → ℕ → SpinlockState → SpinlockState
 releasedTimes zero tid s = s
@@ -216,7 +215,7 @@ releasedTimes (suc k) tid s = release (releasedTimes k tid s) tid .value
 pub nested-reaches : (n tid : ℕ) → n ≤ maxNestDepth → nestedTimes n tid freeRecord ≡ atDepth n tid
 nested-reaches zero tid h = refl
 nested-reaches (suc n) tid h =
-    ap (λ (s : SpinlockState). acquireNested s tid .value) (nested-reaches n tid (omega arith))
+    ap (λ (s : SpinlockState). acquire s tid true .value) (nested-reaches n tid (omega arith))
     ∙ ap (λ (a : Answer SpinlockState). a .value) (nested-deeper n tid h)
 
 -- After n acquires and k releases the thread is at depth n - k, for every k up to n.
@@ -253,7 +252,7 @@ acquire-of-held s tid elsewhere valid taken = operated (Acquire false) s tid els
     by (foreign _ _) = refl
 
 -- Upstream's lemma_double_acquire_rejected, of the single call.
-pub plain-acquire-of-held : (s : SpinlockState) (tid : ℕ) → validRecord s ≡ true → held (s .owner) ≡ true → acquire s tid ≡ answer EBUSY s
+pub plain-acquire-of-held : (s : SpinlockState) (tid : ℕ) → validRecord s ≡ true → held (s .owner) ≡ true → acquire s tid false ≡ answer EBUSY s
 plain-acquire-of-held s tid = acquire-of-held s tid false
 
 -- ---- a thread elsewhere

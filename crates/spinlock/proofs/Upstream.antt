@@ -19,7 +19,6 @@ use Rattle.spinlock.specs.Lock.{
   validRecord,
   after,
   acquire,
-  acquireNested,
   release,
   held,
   owns,
@@ -87,27 +86,28 @@ module _ (s : SpinlockState) (tid : ℕ) (valid : validRecord s ≡ true) where
   acquire-check-other t e other = rw (valid, e)
 
   -- acquire: free gives owner, depth 1 and the flag; held is EBUSY and changes nothing.
-  pub acquire-free : s .owner ≡ None → acquire s tid ≡ answer OK (takenBy tid)
+  pub acquire-free : s .owner ≡ None → acquire s tid false ≡ answer OK (takenBy tid)
   unfolding codeOf after
   acquire-free e = operated (Acquire false) s tid false valid (none-is-free s tid e)
 
-  pub acquire-held : (t : ℕ) → s .owner ≡ Thread t → acquire s tid ≡ answer EBUSY s
+  pub acquire-held : (t : ℕ) → s .owner ≡ Thread t → acquire s tid false ≡ answer EBUSY s
   acquire-held t e = plain-acquire-of-held s tid valid (ap held e)
 
-  -- acquire_nested: free; the same owner with room; the same owner at the greatest depth; another owner. The flag stays in the last three.
-  pub nested-free : s .owner ≡ None → acquireNested s tid ≡ answer OK (takenBy tid)
+  -- acquire_nested, which is acquire with its flag set: free; the same owner with room; the same owner at the greatest depth; another owner. The
+  -- irq flag stays in the last three.
+  pub nested-free : s .owner ≡ None → acquire s tid true ≡ answer OK (takenBy tid)
   unfolding codeOf after
   nested-free e = operated (Acquire true) s tid false valid (none-is-free s tid e)
 
-  pub nested-own : s .owner ≡ Thread tid → s .«nest_count» < maxNestDepth → acquireNested s tid ≡ answer OK (deeper s)
+  pub nested-own : s .owner ≡ Thread tid → s .«nest_count» < maxNestDepth → acquire s tid true ≡ answer OK (deeper s)
   unfolding codeOf after
   nested-own e below = operated (Acquire true) s tid false valid (below-is-own s tid e below)
 
-  pub nested-full : s .owner ≡ Thread tid → maxNestDepth ≤ s .«nest_count» → acquireNested s tid ≡ answer EBUSY s
+  pub nested-full : s .owner ≡ Thread tid → maxNestDepth ≤ s .«nest_count» → acquire s tid true ≡ answer EBUSY s
   unfolding codeOf after
   nested-full e deepest = operated (Acquire true) s tid false valid (deepest-is-full s tid e deepest)
 
-  pub nested-other : (t : ℕ) → s .owner ≡ Thread t → (t ≡ tid → ⊥) → acquireNested s tid ≡ answer EBUSY s
+  pub nested-other : (t : ℕ) → s .owner ≡ Thread t → (t ≡ tid → ⊥) → acquire s tid true ≡ answer EBUSY s
   unfolding codeOf after
   nested-other t e other = operated (Acquire true) s tid false valid (other-is-foreign s tid t e other)
 

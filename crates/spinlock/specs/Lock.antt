@@ -75,13 +75,9 @@ unfoldable pub operate : Operation → SpinlockState → ℕ → Bool → Answer
 operate op s tid elsewhere =
     cond (validRecord s) (answer (codeOf op (situationAt s tid elsewhere)) (after op (situationAt s tid elsewhere) s tid)) (answer EINVAL s)
 
--- acquire: free is taken; held is EBUSY, for the owner also. Nobody is elsewhere.
-abbrev pub acquire : SpinlockState → ℕ → Answer SpinlockState
-acquire s tid = operate (Acquire false) s tid false
-
--- acquire_nested: as acquire when free; the owner below 255 gains one; the owner at 255, or another thread, EBUSY.
-abbrev pub acquireNested : SpinlockState → ℕ → Answer SpinlockState
-acquireNested s tid = operate (Acquire true) s tid false
+-- acquire: free is taken; held is EBUSY, for the owner also. Nested, the owner below 255 gains one instead. Nobody is elsewhere.
+abbrev pub acquire : SpinlockState → ℕ → Bool → Answer SpinlockState
+acquire s tid nested = operate (Acquire nested) s tid false
 
 -- release: the owner loses one level, and at depth 1 frees the lock; else EPERM, for a free lock too.
 abbrev pub release : SpinlockState → ℕ → Answer SpinlockState

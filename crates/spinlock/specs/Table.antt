@@ -1,4 +1,4 @@
--- 01, "What must change shape": the codes of acquire, acquire_nested and release depend only on whether a record is free, the owner's
+-- 01, "What must change shape": the codes of acquire, plain or nested, and of release depend only on whether a record is free, the owner's
 -- below 255, the owner's at 255 or another's.
 use Prim.Native.Nat.{ℕ}
 use mathlib.Core.Bool.{cond}
@@ -21,8 +21,7 @@ columnOf Own = 1
 columnOf Full = 2
 columnOf Foreign = 3
 
--- acquire: held is EBUSY, for the owner also. acquire_nested: the owner at 255, or another thread, EBUSY. release: else EPERM, for a free
--- lock too.
+-- acquire: held is EBUSY, for the owner also, unless it is nested and the owner's below 255. release: else EPERM, for a free lock too.
 unfoldable pub codeOf : Operation → Situation → ℤ
 codeOf (Acquire nested) Free = OK
 codeOf (Acquire nested) Own = cond nested OK EBUSY

@@ -1,9 +1,10 @@
 // One lock record: who holds a spinlock, how deep, and whether interrupts were saved when it was taken.
 //
 // Upstream: src/spinlock.rs, `SpinlockState` with its methods, by value: a call takes the record and gives it back.
-//   init -> new; acquire, acquire_nested and release keep their names; the calls that only read are in spinlock_reads
+//   init -> new; acquire and release keep their names, and acquire_nested is acquire with its flag set; the calls that only read are in
+//   spinlock_reads
 //   set_owner is named upstream and stands in no file: spinlock_validate::spin_lock_compute_owner stands for it
-//   operate is new: acquire, acquire_nested and release in one, for a thread that may be on another CPU than it took the lock on
+//   operate is new: acquire and release in one, for a thread that may be on another CPU than it took the lock on
 // What upstream requires, a valid record, is tested here: an invalid one is EINVAL in every call and comes back as given. A caller can
 // rely on these (proofs/Laws.antt): no call makes a valid record invalid, a refusal changes nothing, and a release undoes an acquire.
 ghost use mathlib.Core.Path.{_≡_};
@@ -23,7 +24,6 @@ ghost use Rattle.spinlock.specs.Lock.{
   validRecord,
   situationAt,
   acquire,
-  acquireNested,
   release,
 };
 use error::Code;
@@ -233,18 +233,12 @@ impl SpinlockState {
         }
     }
 
-    // Takes a free lock. A held one is busy, for its owner too.
-    pub fn acquire(self, tid: u32) -> Changed
-        ensures { λ r. ⌜ changedSays r ≡ acquire self tid ⌝ }
+    // Takes a free lock. A held one is busy, for its owner too, unless the acquire is nested: then its owner goes one level deeper, up to the
+    // greatest depth.
+    pub fn acquire(self, tid: u32, nested: bool) -> Changed
+        ensures { λ r. ⌜ changedSays r ≡ acquire self tid nested ⌝ }
     {
-        self.operate(Operation::Acquire { nested: false }, tid, false)
-    }
-
-    // Takes a free lock, or goes one level deeper for its owner. At the greatest depth, or held by another thread, it is busy.
-    pub fn acquire_nested(self, tid: u32) -> Changed
-        ensures { λ r. ⌜ changedSays r ≡ acquireNested self tid ⌝ }
-    {
-        self.operate(Operation::Acquire { nested: true }, tid, false)
+        self.operate(Operation::Acquire { nested }, tid, false)
     }
 
     // Gives back one level, for the owner alone.

@@ -225,6 +225,6 @@ fn replay(path: &[u8], calls: bool) {
 }
 
 fn main() {
-    replay(b"logs-after-01.txt", false);
+    replay(b"logs-after-02.txt", false);
     replay(b"calls-01.txt", true);
 }

@@ -14,7 +14,7 @@ returns c =
     let s = c .before in
     let k = columns (s .args .operation) (s .pre) in
     let row = rowOf (s .args .operation) in
-    rw (c .uses .ensures ∙ k .b-mask) (mask-says (row .b) (s .args .b) (k .b-priority))
+    rw (c .uses .ensures ∙ k .b-mask) (mask-says (row .b) (s .args .b) (k .b-flag) (k .b-priority))
 
 pub b-fits-spec : {M : Type 1} → statement M
 b-fits-spec = tie.close (tie.spec uses-requires returns)

@@ -1,4 +1,4 @@
--- Each arm is the row of its number; past 12 no row is left. Assumes nothing.
+-- Each arm is the row of its number, and past 12 no row is left. Assumes nothing.
 use mathlib.Core.Path.{refl, ap, _∙_}
 use Prim.Native.Nat.{_≤_}
 use native.Mathlib.Omega.{arith}
@@ -8,7 +8,7 @@ use mir.ValLaws.{toZ-ofZ}
 use Rattle.record.specs.Record.{rowOf}
 use Rattle.record.specs.declared.ThreadOperation.{ThreadOperation}
 use Rattle.record.specs.declared.Operation.{Operation}
-use Rattle.record.proofs.Table.{one-past}
+use Rattle.record.proofs.Table.{one-past, past-row}
 use Rattle.record.proofs.Range.{no-row}
 use Rattle.record.proofs.Cases.{by-number}
 use borrow.Author.Needs.{needs}
@@ -133,7 +133,7 @@ returns-14 c =
     let p11 : 11 ≤ n = one-past 10 n (p10) (c .before .match .rest .0 .0 .1) in
     let p12 : 12 ≤ n = one-past 11 n (p11) (c .before .match .rest .0 .1) in
     let p13 : 13 ≤ n = one-past 12 n (p12) (c .before .match .rest .1) in
-    c .malformed .ensures ∙ no-row _ (c .before .before .args .f) p13
+    c .malformed .ensures ∙ no-row _ (c .before .before .args .f) (past-row n p13)
 
 pub carried-spec : {M : Type 1} → statement M
 carried-spec =
