@@ -137,7 +137,7 @@ requestOf k bs = cond (setupOk k && eqb (length bs) 12) (ofFields (k .n) (fields
 abbrev pub packed : ℕ → ℕ → ℕ → ℕ → ℕ → ℕ → List ℕ
 packed op cpu thread lock a b = ((op * 16 + cpu) ∷ thread ∷ lock ∷ 0 ∷ []) ++ (highFirst 4 a ++ highFirst 4 b)
 
--- The number, A and B of an operation. What is malformed has the first number that has no row.
+-- The number, A and B of an operation. What is malformed has the first number past the table.
 abbrev pub wire : Operation → ℕ × ℕ × ℕ
 wire Operation.Malformed = (length rows, 0, 0)
 wire (Operation.OnCpu CpuOperation.Up) = (0, 0, 0)
