@@ -1,8 +1,8 @@
--- What the code's tests on masks say of bits, at a width of w bits: `1 << i`, `m & (1 << i)` against 0, `m >> k` against 0.
+-- What the code's tests on masks say of bits, at a width of w bits: `1 << i`, a flag `<< i`, `m & (1 << i)` against 0, `m >> k` against 0.
 -- Assumes nothing.
 use mathlib.Core.Path.{_≡_, sym, ap, ap₂, _∙_}
 use mathlib.Core.Logic.{_⊎_, inl, inr}
-use mathlib.Core.Bool.{not}
+use mathlib.Core.Bool.{Bool, true, false, not, _&&_}
 use Prim.Native.Nat.{ℕ, zero, suc, _+_, _*_, _/_, _%_, _^_, _≤_, _<_, min}
 use native.Mathlib.Nat.{
   div-one,
@@ -25,8 +25,10 @@ use lib.Dec.{eqb, ltb, lit<}
 use lib.Pow.{pow-pos, pow-lt}
 use lib.Bits.{bitAnd, and-step, and-mask}
 use borrow.Author.Tests.{eq-eqb, ne-eqb, lt-ltb, le-ltb}
+use mir.Val.{boolByte}
 use Rattle.words.specs.Bit.{bit}
 use Rattle.words.proofs.Choice.{below-or, zero-or-one}
+use Rattle.words.proofs.Bits.{bit-pow, bit-above}
 
 -- `m & 2 ^ i` keeps bit i where it stands.
 and-pow : (i m : ℕ) → bitAnd m (2 ^ i) ≡ m / 2 ^ i % 2 * 2 ^ i
@@ -52,6 +54,11 @@ test-bit i m = ap (λ (x : ℕ). not (eqb x 0)) (and-pow i m) ∙ go (m / 2 ^ i 
 -- `1 << i`.
 pub shl-one : (w i : ℕ) → i < w → (1 * 2 ^ i) % 2 ^ w ≡ 2 ^ i
 shl-one w i h = ap (λ (x : ℕ). x % 2 ^ w) (one-mul (2 ^ i)) ∙ mod-eq-of-lt (pow-lt h)
+
+-- `flag << k` has bit k if the flag is set, and no other.
+pub shl-flag : (w k : ℕ) (flag : Bool) (i : ℕ) → k < w → bit i ((boolByte flag * 2 ^ k) % 2 ^ w) ≡ flag && eqb i k
+shl-flag w k true i h = ap (bit i) (shl-one w k h) ∙ bit-pow i k
+shl-flag w k false i h = ap (λ (x : ℕ). bit i (x % 2 ^ w)) (zero-mul (2 ^ k)) ∙ ap (bit i) (mod-eq-of-lt (pow-pos w)) ∙ bit-above i 0 (pow-pos i)
 
 below-top : (k m : ℕ) → m / 2 ^ k ≡ 0 → m < 2 ^ k
 below-top k m e =

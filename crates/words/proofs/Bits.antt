@@ -16,6 +16,7 @@ use native.Mathlib.Nat.{
   div-eq-of-lt,
   lt-of-lt-of-le,
   mul-div-left,
+  sub-zero,
 }
 use native.Mathlib.Omega.{arith}
 use lib.Dec.{eqb, lit<, eqb·zero-suc, eqb·suc-zero, eqb·suc-suc}
@@ -96,6 +97,10 @@ bit-not (suc w) (suc i) n h k =
     let e : bitNot (suc w) n / 2 ≡ bitNot w (n / 2) = omega (arith, p) in
     bit-suc i (bitNot (suc w) n) ∙ ap (bit i) e ∙ bit-not w i (n / 2) (le-of-suc-le-suc h) (omega (arith, p))
     ∙ ap not (sym (bit-suc i n))
+
+-- One less than a power of two has every bit below it.
+pub bit-ones : (k i : ℕ) → i < k → bit i (2 ^ k - 1) ≡ true
+bit-ones k i h = ap (bit i) (sym (sub-zero (2 ^ k - 1))) ∙ bit-not k i 0 h (pow-pos k) ∙ ap not (bit-above i 0 (pow-pos i))
 
 -- A power of two has its own bit and no other.
 pub bit-pow : (i j : ℕ) → bit i (2 ^ j) ≡ eqb i j

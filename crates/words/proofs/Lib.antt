@@ -1,6 +1,7 @@
 pub mod Choice
 pub mod Bits
 pub mod BitTests
+pub mod Lowest
 pub mod Ones
 pub mod BitsOf
 pub mod Tags

@@ -1,20 +1,20 @@
 -- The count of ones is one exactly if the number is a power of two, over the width; and the two other forms of that test: the list of
 -- powers, and `n != 0 && n & (n - 1) == 0`. Halving n takes its lowest bit off all three at once. Assumes nothing.
-use mathlib.Core.Path.{_≡_, refl, sym, ap, ap₂, _∙_}
+use mathlib.Core.Path.{_≡_, refl, sym, ap, _∙_}
 use mathlib.Core.Logic.{_⊎_, inl, inr}
 use mathlib.Core.Bool.{Bool, true, false, not, _&&_, _||_}
-use Prim.Native.Nat.{ℕ, zero, suc, _+_, _-_, _*_, _/_, _%_, _^_, _<_, min, suc-le-suc}
-use native.Mathlib.Nat.{pow-succ', mod-lt, zero-lt-suc, not-suc-le-zero, one-mul, add-zero, eq-or-lt-of-le, le-of-suc-le-suc, min-zero, pos-of-ne-zero}
+use Prim.Native.Nat.{ℕ, zero, suc, _*_, _/_, _%_, _^_, _<_, suc-le-suc}
+use native.Mathlib.Nat.{pow-succ', mod-lt, zero-lt-suc, not-suc-le-zero, one-mul, add-zero, eq-or-lt-of-le, le-of-suc-le-suc, pos-of-ne-zero}
 use native.Mathlib.Omega.{arith}
 use lib.Dec.{lit<, eqb}
 use lib.Arith.{lt-one}
-use lib.Bits.{bitAnd, and-step, and-self}
 use lib.Pow.{pow-pos, pow-lt}
 use lib.Count.{ones, ones-step, ones-cat}
 use borrow.Author.Tests.{eq-eqb, ne-eqb, eqb-true}
 use Rattle.words.specs.Bit.{bit, powerBelow}
 use Rattle.words.proofs.Choice.{zero-or-one, same-or, same-test}
 use Rattle.words.proofs.Bits.{bit-pow, bit-ext}
+use Rattle.words.proofs.Lowest.{cleared, cleared-odd, cleared-even}
 
 pub ones-none : (w n : ℕ) → n < 2 ^ w → ones n ≡ 0 → n ≡ 0
 ones-none zero n h e = lt-one h
@@ -94,7 +94,7 @@ ones-listed w n h =
 
 -- Upstream's test: n is not 0, and no bit of n is left in `n & (n - 1)`.
 abbrev lowestAlone : ℕ → Bool
-lowestAlone n = not (eqb n 0) && eqb (bitAnd n (n - 1)) 0
+lowestAlone n = not (eqb n 0) && eqb (cleared n) 0
 
 double-zero : (x : ℕ) → eqb (x * 2) 0 ≡ eqb x 0
 double-zero zero = refl
@@ -107,22 +107,11 @@ lowest-even n even = go (same-or (n / 2) 0)
     go : (n / 2 ≡ 0) ⊎ (n / 2 ≡ 0 → ⊥) → lowestAlone n ≡ lowestAlone (n / 2)
     go (inl z) = let e : n ≡ 0 = omega arith in ap lowestAlone e ∙ sym (ap lowestAlone z)
     go (inr f) =
-        let half : (n - 1) / 2 ≡ n / 2 - 1 = (let some : 0 < n / 2 = pos-of-ne-zero f in omega arith) in
-        let low : (n - 1) % 2 ≡ 1 = (let some : 0 < n / 2 = pos-of-ne-zero f in omega arith) in
-        let e : bitAnd n (n - 1) ≡ bitAnd (n / 2) (n / 2 - 1) * 2 =
-        and-step n (n - 1) ∙ ap₂ (λ (x y : ℕ). bitAnd (n / 2) x * 2 + min (n % 2) y) half low
-        ∙ ap (λ (x : ℕ). bitAnd (n / 2) (n / 2 - 1) * 2 + min x 1) even ∙ add-zero (bitAnd (n / 2) (n / 2 - 1) * 2) in
-        rw (ne-eqb n 0 (λ q. f (omega arith)), ne-eqb (n / 2) 0 f, e) (double-zero (bitAnd (n / 2) (n / 2 - 1)))
+        rw (ne-eqb n 0 (λ q. f (omega arith)), ne-eqb (n / 2) 0 f, cleared-even n (pos-of-ne-zero f) even) (double-zero (cleared (n / 2)))
 
 -- An odd n: it is 1.
 lowest-odd : (n : ℕ) → n % 2 ≡ 1 → lowestAlone n ≡ eqb (n / 2) 0
-lowest-odd n odd =
-    let half : (n - 1) / 2 ≡ n / 2 = omega arith in
-    let low : (n - 1) % 2 ≡ 0 = omega arith in
-    let e : bitAnd n (n - 1) ≡ n / 2 * 2 =
-    and-step n (n - 1) ∙ ap₂ (λ (x y : ℕ). bitAnd (n / 2) x * 2 + min (n % 2) y) half low
-    ∙ ap₂ (λ (x y : ℕ). x * 2 + y) (and-self (n / 2)) (min-zero (n % 2)) ∙ add-zero (n / 2 * 2) in
-    rw (ne-eqb n 0 (λ q. omega arith), e) (double-zero (n / 2))
+lowest-odd n odd = rw (ne-eqb n 0 (λ q. omega arith), cleared-odd n odd) (double-zero (n / 2))
 
 -- That test is the count of ones.
 pub ones-lowest : (w n : ℕ) → n < 2 ^ w → lowestAlone n ≡ eqb (ones n) 1
