@@ -103,17 +103,31 @@ mod theirs {
     }
 }
 
-/// Numbers that every call accepts: a CPU below 4, an aligned thread word, and three more.
+/// How many bits the affinity masks of their own rows have. With none the walk looks at no CPU, and what is left of the call is the reading.
+const BITS: [usize; 5] = [0, 1, 2, 8, 16];
+
+/// Numbers that every call accepts: a CPU below 4, an aligned thread word, three more, and an affinity mask for each of `BITS`.
 struct Input {
     cpu: u32,
     thread: u64,
     word: u64,
     masks: [u32; 3],
+    affinity: [u32; BITS.len()],
     cpus: [u8; MAX_CPUS * BYTES_A_CPU],
 }
 
+/// A mask of so many of the sixteen CPUs, the current one last.
+fn affinity(bits: usize, current: u32, random: &mut Random) -> u32 {
+    let mut cpus: Vec<u32> = (0..MAX_CPUS as u32).filter(|&cpu| cpu != current).collect();
+    for at in (1..cpus.len()).rev() {
+        cpus.swap(at, random.below(at as u64 + 1) as usize);
+    }
+    cpus.push(current);
+    cpus[..bits].iter().fold(0, |mask, cpu| mask | 1 << cpu)
+}
+
 fn inputs() -> Vec<Input> {
-    let mut random = Random::new(SEED);
+    let (mut random, mut random_affinity) = (Random::new(SEED), Random::new(SEED + 1));
     let mut made = Vec::new();
     for _ in 0..INPUTS {
         let cpu = random.below(4) as u32;
@@ -125,7 +139,8 @@ fn inputs() -> Vec<Input> {
             cpu[0] = random.below(2) as u8;
             cpu[1..].copy_from_slice(&(random.word() as i32 >> 24).to_be_bytes());
         }
-        made.push(Input { cpu, thread, word, masks, cpus });
+        let affinity = BITS.map(|bits| affinity(bits, cpu, &mut random_affinity));
+        made.push(Input { cpu, thread, word, masks, affinity, cpus });
     }
     made
 }
@@ -154,7 +169,7 @@ fn row(name: &str, inputs: &[Input], ours: impl Fn(&Input, *mut u8) -> i32, thei
         time(&mut best[1], &theirs);
     }
     let ratio = best[0] / best[1];
-    println!("{name:<24} {:>8.2} {:>9.2} {ratio:>7.2}", best[0], best[1]);
+    println!("{name:<38} {:>8.2} {:>9.2} {ratio:>7.2}", best[0], best[1]);
     ratio
 }
 
@@ -169,10 +184,10 @@ macro_rules! row {
 fn main() {
     let inputs = &inputs();
     println!("{INPUTS} inputs, best of {ROUNDS} rounds; ns a call");
-    println!("{:<24} {:>8} {:>9} {:>7}", "call", "proved", "upstream", "ratio");
+    println!("{:<38} {:>8} {:>9} {:>7}", "call", "proved", "upstream", "ratio");
     let four = 4 * BYTES_A_CPU;
     let all = MAX_CPUS * BYTES_A_CPU;
-    let ratios = [
+    let mut ratios = vec![
         row!("spin_lock_compute_owner", inputs, hubcrackle_spin_lock_compute_owner, compute_owner, |i| (i.cpu, i.thread)),
         row!("spin_lock_valid", inputs, hubcrackle_spin_lock_valid, lock_valid, |i| (i.word, i.cpu)),
         row!("spin_unlock_valid", inputs, hubcrackle_spin_unlock_valid, unlock_valid, |i| (i.word, i.cpu, i.thread)),
@@ -181,9 +196,13 @@ fn main() {
         row!("validate_pin_mask", inputs, hubcrackle_validate_pin_mask, pin_test, |i| (!i.masks[2])),
         row!("cpu_pin_compute", inputs, hubcrackle_cpu_pin_compute, pin, |i| (i.cpu, 32)),
         row!("compute_ipi_mask, 4 CPUs", inputs, hubcrackle_compute_ipi_mask, ipi_mask, |i| (i.cpu, 0, i.masks[0], i.cpus.as_ptr(), four, 4, 4)),
-        row!("compute_ipi_mask, 16", inputs, hubcrackle_compute_ipi_mask, ipi_mask, |i| (i.cpu, 0, i.masks[0], i.cpus.as_ptr(), all, 16, 16)),
+        row!("compute_ipi_mask, 16 CPUs", inputs, hubcrackle_compute_ipi_mask, ipi_mask, |i| (i.cpu, 0, i.masks[0], i.cpus.as_ptr(), all, 16, 16)),
         row!("validate_ipi_mask", inputs, hubcrackle_validate_ipi_mask, ipi_test, |i| (i.masks[0] >> 16, i.cpu, 16)),
     ];
+    for (which, bits) in BITS.iter().enumerate() {
+        let name = format!("compute_ipi_mask, 16 CPUs, mask of {bits}");
+        ratios.push(row!(&name, inputs, hubcrackle_compute_ipi_mask, ipi_mask, |i| (i.cpu, 0, i.affinity[which], i.cpus.as_ptr(), all, 16, 16)));
+    }
     let over = ratios.iter().filter(|&&ratio| ratio > GOAL).count();
     println!("{over} of {} calls over {GOAL} times upstream's", ratios.len());
 }

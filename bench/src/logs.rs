@@ -1,5 +1,7 @@
 //! Logs for the benchmark, from a generator with a fixed seed.
 
+use std::iter;
+
 use crate::baseline::{Machine, OK, RECORD_BYTES};
 use crate::random::Random;
 
@@ -23,6 +25,8 @@ const CPUS: u64 = 4;
 /// Fewer threads and locks than a machine has, so that records meet each other's.
 const THREADS: u64 = 8;
 const LOCKS: u64 = 16;
+/// More important than a fresh thread, whose priority is 0.
+const IMPORTANT: i32 = -1;
 /// How many records are drawn to find one that is accepted. Some stay refused, as on a controller.
 const DRAWS: usize = 24;
 
@@ -65,12 +69,23 @@ fn record(kind: usize, random: &mut Random) -> [u8; RECORD_BYTES] {
         "priority" => ((random.below(256) as i32 - 128) as u32, 0),
         _ => (0, 0),
     };
+    packed(kind, [cpu, thread, lock], [a, b])
+}
+
+/// A record of a kind with these fields.
+fn packed(kind: usize, [cpu, thread, lock]: [u8; 3], [a, b]: [u32; 2]) -> [u8; RECORD_BYTES] {
     let mut bytes = [0; RECORD_BYTES];
     let number = if kind == NESTED { ACQUIRE } else { kind };
     bytes[..4].copy_from_slice(&[(number as u8) << 4 | cpu, thread, lock, 0]);
     bytes[4..8].copy_from_slice(&a.to_be_bytes());
     bytes[8..].copy_from_slice(&b.to_be_bytes());
     bytes
+}
+
+/// A record by its kind's name, on a CPU and a thread.
+fn named(name: &str, cpu: u64, thread: u64, a: u32) -> [u8; RECORD_BYTES] {
+    let kind = KINDS.iter().position(|of| *of == name).expect("a kind");
+    packed(kind, [cpu as u8, thread as u8, 0], [a, 0])
 }
 
 /// A log of the longest size from a fresh machine. `kind` draws the next record's.
@@ -103,11 +118,23 @@ pub fn only(kind: usize, random: &mut Random) -> Vec<u8> {
 
 /// CPU 0 comes up, thread 0 is put on it, and every other record unwinds the two: accepted, over all locks, with none to free.
 pub fn unwind_running() -> Vec<u8> {
-    let mut bytes = vec![0; RECORDS * RECORD_BYTES];
-    for (at, record) in bytes.chunks_exact_mut(RECORD_BYTES).enumerate() {
-        let name = ["up", "put"].get(at).unwrap_or(&"unwind");
-        let number = KINDS.iter().position(|of| of == name).expect("an operation");
-        record[0] = (number as u8) << 4;
+    let begins = [named("up", 0, 0, 0), named("put", 0, 0, 0)];
+    begins.into_iter().chain(iter::repeat(named("unwind", 0, 0, 0))).take(RECORDS).flatten().collect()
+}
+
+/// Every CPU comes up and runs a fresh thread. The other threads are more important; each may run on every CPU or, pinned, on one. Every other record
+/// asks which CPUs to interrupt for one of these.
+pub fn interrupts(pinned: bool, random: &mut Random) -> Vec<u8> {
+    let mut records = Vec::new();
+    for cpu in 0..CPUS {
+        records.extend([named("up", cpu, 0, 0), named("put", cpu, cpu, 0)]);
     }
-    bytes
+    for thread in CPUS..THREADS {
+        records.push(named("priority", 0, thread, IMPORTANT as u32));
+        if pinned {
+            records.push(named("pin", random.below(CPUS), thread, 0));
+        }
+    }
+    let asked = iter::repeat_with(|| named("ipi", random.below(CPUS), random.below(THREADS - CPUS) + CPUS, 0));
+    records.into_iter().chain(asked).take(RECORDS).flatten().collect()
 }

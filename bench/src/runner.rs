@@ -120,6 +120,10 @@ fn main() {
         met.push(row(&format!("{name} only"), &only, RECORDS, goal));
     }
     met.push(row("unwind, running", &vec![logs::unwind_running(); LOGS], RECORDS, UNWIND_GOAL));
+    for (name, pinned) in [("ipi, one CPU", true), ("ipi, all CPUs", false)] {
+        let logs: Vec<_> = (0..LOGS).map(|_| logs::interrupts(pinned, &mut random)).collect();
+        met.push(row(name, &logs, RECORDS, ONLY_GOAL));
+    }
     met.push(row("mixed", &mixed, RECORDS, MIXED_GOAL));
     met.push(row("empty log", &vec![Vec::new(); LOGS], 1, EMPTY_GOAL));
     print_accepted(&mixed);

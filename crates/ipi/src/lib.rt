@@ -42,8 +42,9 @@ fn counts_fit(current_cpu: u32, num_cpus: u32, max_cpus: u32) -> bool
     (max_cpus <= MAX_IPI_CPUS) & ((num_cpus <= max_cpus) & (current_cpu < num_cpus))
 }
 
-// The mask of the CPUs to interrupt for a thread of this priority and affinity. The walk looks at the records alone; affinity and the current
-// CPU are two masks over what it finds. It stands here and not in a function of its own, to which the array would be copied.
+// The mask of the CPUs to interrupt for a thread of this priority and affinity. Those of the affinity mask below num_cpus can match, but for the
+// current one. The walk goes from one of them to the next by trailing zeros and looks at no other record. What a record says is shifted to its
+// bit, since a branch on it would be guessed wrong. The walk stands here and not in a function of its own, to which the array would be copied.
 pub fn compute_ipi_mask(
     current_cpu: u32,
     target_prio: i32,
@@ -60,20 +61,21 @@ pub fn compute_ipi_mask(
             mask: 0,
         };
     }
-    let mut less: u32 = 0;
-    let mut idx: u32 = 0;
-    while idx < num_cpus {
+    let below = (1u32 << num_cpus) - 1;
+    let others = !(1u32 << current_cpu);
+    let mut ahead = target_cpu_mask & (below & others);
+    let mut mask: u32 = 0;
+    while ahead != 0 {
+        let idx = u32::trailing_zeros(ahead);
         let at = idx as usize;
         let cpu = cpus[at];
-        if runs_less(target_prio, cpu) {
-            less = less | (1u32 << idx);
-        }
-        idx += 1;
+        let less = runs_less(target_prio, cpu) as u32;
+        mask = mask | (less << idx);
+        ahead = ahead & (ahead - 1);
     }
-    let others = !(1u32 << current_cpu);
     IpiMask {
         code: Code::Ok,
-        mask: less & (target_cpu_mask & others),
+        mask,
     }
 }
 
