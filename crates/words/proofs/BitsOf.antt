@@ -1,11 +1,9 @@
--- The number with given bits: its bits are those, it is the only such number, and `mask | (1 << k)` puts the next one in.
--- Assumes nothing.
-use mathlib.Core.Path.{_≡_, refl, sym, ap, ap₂, _∙_}
+-- The number with given bits: its bits are those, and it is the only such number. Assumes nothing.
+use mathlib.Core.Path.{_≡_, refl, sym, ap, _∙_}
 use mathlib.Core.Logic.{_⊎_, inl, inr}
 use mathlib.Core.Bool.{Bool, true, false, _&&_, _||_, cond, and-true, and-false, or-false}
-use Prim.Native.Nat.{ℕ, zero, suc, _+_, _*_, _%_, _^_, _≤_, _<_}
+use Prim.Native.Nat.{ℕ, zero, suc, _+_, _^_, _≤_, _<_}
 use native.Mathlib.Nat.{pow-succ', one-mul, zero-add, not-suc-le-zero, eq-or-lt-of-le, le-of-suc-le-suc}
-use native.Mathlib.Numerals.{add-one}
 use native.Mathlib.Omega.{arith}
 use lib.Bits.{bitOr, or-shifted-r}
 use lib.Dec.{eqb, ltb}
@@ -13,7 +11,6 @@ use borrow.Author.Tests.{lt-ltb, le-ltb, eq-eqb, ne-eqb}
 use Rattle.words.specs.Bit.{bit, bitsOf}
 use Rattle.words.proofs.Choice.{below-or}
 use Rattle.words.proofs.Bits.{bit-or, bit-pow, bit-above, bit-above-width, bit-ext}
-use Rattle.words.proofs.BitTests.{shl-one}
 
 pub bitsOf-lt : (f : ℕ → Bool) (k : ℕ) → bitsOf f k < 2 ^ k
 unfolding bitsOf
@@ -64,12 +61,3 @@ bitsOf-only f k n h e = bit-ext k n (bitsOf f k) h (bitsOf-lt f k) (λ i l. e i 
 -- Tests that agree below k make the same number.
 pub bitsOf-same : (f g : ℕ → Bool) (k : ℕ) → ((i : ℕ) → i < k → f i ≡ g i) → bitsOf f k ≡ bitsOf g k
 bitsOf-same f g k e = bitsOf-only g k (bitsOf f k) (bitsOf-lt f k) (λ i l. within f k i l ∙ e i l)
-
--- A turn of a loop that collects bits, at a width of w bits: the bit is put in, or left out.
-pub put-bit : (w : ℕ) (f : ℕ → Bool) (k mask : ℕ) {next : ℕ} → k < w → mask ≡ bitsOf f k → f k ≡ true
-    → next ≡ bitOr mask ((1 * 2 ^ k) % 2 ^ w) → next ≡ bitsOf f (k + 1)
-put-bit w f k mask h i e q =
-    q ∙ ap₂ bitOr i (shl-one w k h) ∙ bitsOf-put f k e ∙ ap (bitsOf f) (sym (add-one k))
-
-pub leave-bit : (f : ℕ → Bool) (k mask : ℕ) {next : ℕ} → mask ≡ bitsOf f k → f k ≡ false → next ≡ mask → next ≡ bitsOf f (k + 1)
-leave-bit f k mask i e q = q ∙ i ∙ bitsOf-leave f k e ∙ ap (bitsOf f) (sym (add-one k))
