@@ -13,7 +13,7 @@ use Rattle.ipi.specs.Ipi.{countsFit, computeIpiMask}
 use Rattle.ipi.specs.declared.CpuRecord.{CpuRecord}
 use Rattle.ipi.proofs.Laws.{InRange, counts-say}
 use Rattle.cpu_bytes.specs.Cpus.{activeBytes, InPlaces, ipiMaskOfBytes}
-use Rattle.cpu_bytes.proofs.Places.{same-rule}
+use Rattle.cpu_bytes.proofs.Places.{same-answer}
 
 -- A test between two equal answers is no test.
 same-either-way : {A : Type 0} (t : Bool) (a : A) → cond t a a ≡ a
@@ -43,4 +43,4 @@ module _ (current : ℕ) (target : ℤ) (mask : ℕ) (bs : List ℕ) (num max : 
         → computeIpiMask current z mask cpus num max ≡ ipiMaskOfBytes current target mask bs num max
     unfolding ipiMaskOfBytes
     ruled good few z same cpus read =
-        rw (same, eq-eqb (length bs) (5 * num) long, good) (same-rule current target mask bs num max cpus few read)
+        rw (same, eq-eqb (length bs) (5 * num) long, good) (same-answer current target mask bs num max cpus few read)

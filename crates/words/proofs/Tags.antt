@@ -1,10 +1,10 @@
 -- Laws of tags, over the tag's width k: the word gives back the CPU and the thread that made it, distinct pairs make distinct words, a word
--- is never 0 and at least 2 ^ k, and whatever is at least 2 ^ k was made by its own CPU and thread. The multiples 2 ^ k * (t + 1) are words of
--- threads, one each. Assumes nothing.
+-- is never 0, at least 2 ^ k and no wider than its thread's, and whatever is at least 2 ^ k was made by its own CPU and thread. The multiples
+-- 2 ^ k * (t + 1) are words of threads, one each. Assumes nothing.
 use mathlib.Core.Path.{_≡_, sym, ap, _∙_}
 use mathlib.Core.Logic.{_⊎_, inl, inr}
 use mathlib.Core.Bool.{true, not}
-use Prim.Native.Nat.{ℕ, _+_, _-_, _*_, _/_, _%_, _^_, _≤_, _<_}
+use Prim.Native.Nat.{ℕ, suc, _+_, _-_, _*_, _/_, _%_, _^_, _≤_, _<_}
 use native.Mathlib.Nat.{
   div-add-mod',
   mod-eq-of-lt,
@@ -14,6 +14,8 @@ use native.Mathlib.Nat.{
   mul-mod-left,
   mul-mod-right,
   mul-div-cancel-left,
+  mul-le-mul-right,
+  suc-mul,
   pos-of-ne-zero,
   lt-of-not-le,
   le-of-suc-le-suc,
@@ -21,7 +23,7 @@ use native.Mathlib.Nat.{
 use native.Mathlib.Omega.{arith}
 use lib.Bits.{bitAnd, bitOr, or-shifted, and-mask, and-high}
 use lib.Dec.{eqb, ltb}
-use lib.Pow.{pow-pos, low, shr-mod}
+use lib.Pow.{pow-pos, pow-add, low, shr-lt, shr-mod}
 use borrow.Author.Tests.{ltb-true, eqb-true, eqb-false, not-true, lt-ltb, eq-eqb, ne-eqb}
 use Rattle.words.specs.Bit.{bitNot}
 use Rattle.words.specs.Tag.{taggable, wordOf, cpuOf, threadOf}
@@ -63,6 +65,12 @@ module _ (k cpu thread : ℕ) (t : Taggable k cpu thread) where
   word-least =
       let least : 2 ^ k ≤ thread = le-of-suc-le-suc (lt-of-not-le (λ (h : thread < 2 ^ k). omega (arith, mod-eq-of-lt h, t .aligned, t .some))) in
       omega arith
+
+  -- It needs no more bits than the thread's word.
+  pub word-fits : (j : ℕ) → thread < 2 ^ (j + k) → wordOf cpu thread < 2 ^ (j + k)
+  word-fits j h =
+      let next : suc (thread / 2 ^ k) * 2 ^ k ≤ 2 ^ j * 2 ^ k = mul-le-mul-right (2 ^ k) (shr-lt j k h) in
+      omega (arith, next, suc-mul (thread / 2 ^ k) (2 ^ k), pow-add 2 j k, whole, t .below)
 
   -- The sum is the `|` of the two: they have no bit in common.
   pub word-or : bitOr thread cpu ≡ wordOf cpu thread

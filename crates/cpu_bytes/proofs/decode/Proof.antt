@@ -7,7 +7,8 @@ use mathlib.Core.Path.{_≡_, refl, _∙_}
 use denote.Ref.{now}
 use lib.ListN.{length, replicate, length-set}
 use Rattle.cpu_bytes.specs.Cpus.{activeBytes, InPlaces}
-use Rattle.cpu_bytes.proofs.Places.{first-in-place, next-in-place}
+use Rattle.ipi.proofs.Places.{first-placed, next-placed}
+use Rattle.cpu_bytes.proofs.Places.{decoded}
 use Rattle.cpu_bytes.proofs.decode.Statement.{statement}
 use Rattle.cpu_bytes.proofs.decode.Tie as tie
 
@@ -28,7 +29,7 @@ loop-holds : tie.Need-loop-holds Inv-loop μ-loop
 unfolding activeBytes
 loop-holds c =
     let bs = now (c .before .before .before .args .cpus) in
-    (omega arith, refl, first-in-place bs (replicate 16 (c .before .cpu-at .result)) (c .before .cpu-at .ensures), refl)
+    (omega arith, refl, first-placed (decoded bs) (replicate 16 (c .before .cpu-at .result)) (c .before .cpu-at .ensures), refl)
 
 cast-i : tie.Need-cast-i Inv-loop μ-loop
 cast-i c = omega arith
@@ -62,7 +63,7 @@ loop-again c =
     let i = t .loop .inv in (
       omega arith,
       length-set (t .loop .records) (t .loop .idx) (c .cpu-at2 .result) ∙ i .1,
-      rw (c .cpu-at2 .ensures) (next-in-place bs (t .loop .idx) (t .loop .records) (omega arith) (i .2)),
+      rw (c .cpu-at2 .ensures) (next-placed (decoded bs) (t .loop .idx) (t .loop .records) (omega arith) (i .2)),
       rw (add-one, i .3),
     )
 
