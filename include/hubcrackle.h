@@ -5,7 +5,8 @@
  * calls and call nothing but memcpy, so any number of CPUs may be in them at once.
  *
  * The archive is plain System V x86-64 code: it may use SSE registers and the 128 bytes below the stack pointer. Call it where both are allowed.
- * As built now, hubcrackle_run takes about 10,200 bytes of stack, and every other function less than 512.
+ * As built now, hubcrackle_run takes about 10,800 bytes of stack, and every other function less than 512. Its machine, with sixteen CPU slots in
+ * either width, has 3,912 of them.
  *
  * Every function works in the same way.
  *
@@ -57,25 +58,40 @@ extern "C" {
 #endif
 
 /*
- * Owner words: 64 bits that say which thread on which CPU holds a lock; 0 says that nobody does. A CPU is 0 to 3. A thread word is nonzero and
- * a multiple of 4, such as the address of an aligned thread structure.
+ * Owner words: 64 bits that say which thread on which CPU holds a lock; 0 says that nobody does. The number of the CPU stands in their low bits:
+ * two, or four on a controller with more than four CPUs. `wide` says which, in every call: HUBCRACKLE_NARROW or HUBCRACKLE_WIDE; any other number
+ * is EINVAL. The same word names another CPU and another thread at the other width, so all calls on a lock have to take the same.
+ *
+ *                                  narrow               wide
+ *     CPU                          0 to 3               0 to 15
+ *     thread word                  nonzero, multiple    nonzero, multiple
+ *                                  of 4                 of 16
+ *     words that no thread makes   1 to 3               1 to 15
+ *
+ * A thread word may be the address of a thread structure that is aligned so.
+ *
+ * What a C kernel has to change: until now these four calls had no `wide`, and the words were the narrow ones. Hand HUBCRACKLE_NARROW to each,
+ * just before `out`, and everything is as it was. For wide words align thread structures to 16 bytes, and make every word anew.
  */
+#define HUBCRACKLE_NARROW 0
+#define HUBCRACKLE_WIDE 1
 
 /* The owner word of a thread on a CPU: the sum of the two. Value: HUBCRACKLE_WORD_BYTES.
- * EINVAL: the CPU is above 3; the thread word is 0 or no multiple of 4. */
-int32_t hubcrackle_spin_lock_compute_owner(uint32_t current_cpu_id, uint64_t current_thread, uint8_t *out, size_t out_len);
+ * EINVAL: the CPU is above 3, wide above 15; the thread word is 0 or no multiple of 4, wide of 16; `wide` is neither 0 nor 1. */
+int32_t hubcrackle_spin_lock_compute_owner(uint32_t current_cpu_id, uint64_t current_thread, uint32_t wide, uint8_t *out, size_t out_len);
 
 /* Who holds the lock that has this owner word. Value: HUBCRACKLE_HOLDER_BYTES, all zero if it is free (word 0).
- * EINVAL: the word is 1, 2 or 3, which no thread makes. */
-int32_t hubcrackle_spin_lock_decode_owner(uint64_t thread_cpu, uint8_t *out, size_t out_len);
+ * EINVAL: the word is 1 to 3, wide 1 to 15, which no thread makes; `wide` is neither 0 nor 1. */
+int32_t hubcrackle_spin_lock_decode_owner(uint64_t thread_cpu, uint32_t wide, uint8_t *out, size_t out_len);
 
 /* Whether a CPU may go for the lock that has this owner word. Value: HUBCRACKLE_YES_NO_BYTES; no exactly if the word is nonzero and names that
- * CPU, so that the CPU would wait for itself. EINVAL: the CPU is above 3. */
-int32_t hubcrackle_spin_lock_valid(uint64_t thread_cpu, uint32_t current_cpu_id, uint8_t *out, size_t out_len);
+ * CPU, so that the CPU would wait for itself. EINVAL: the CPU is above 3, wide above 15; `wide` is neither 0 nor 1. */
+int32_t hubcrackle_spin_lock_valid(uint64_t thread_cpu, uint32_t current_cpu_id, uint32_t wide, uint8_t *out, size_t out_len);
 
 /* Whether a thread on a CPU may unlock the lock that has this owner word. Value: HUBCRACKLE_YES_NO_BYTES; yes exactly if the word is theirs.
- * EINVAL: the CPU or the thread word is one of which hubcrackle_spin_lock_compute_owner makes no word. */
-int32_t hubcrackle_spin_unlock_valid(uint64_t thread_cpu, uint32_t current_cpu_id, uint64_t current_thread, uint8_t *out, size_t out_len);
+ * EINVAL: the CPU, the thread word or `wide` is one of which hubcrackle_spin_lock_compute_owner makes no word. */
+int32_t hubcrackle_spin_unlock_valid(uint64_t thread_cpu, uint32_t current_cpu_id, uint64_t current_thread, uint32_t wide, uint8_t *out,
+                                     size_t out_len);
 
 /*
  * Affinity masks: on which CPUs a thread may run, one bit each.
@@ -115,8 +131,9 @@ int32_t hubcrackle_validate_ipi_mask(uint32_t mask, uint32_t current_cpu, uint32
  * A whole log.
  */
 
-/* Runs a log from its start on a fresh machine of 32 threads and 128 locks. The setup byte says the rest: 16 times the number of CPUs, 1 to 4,
- * and 8 more if every mask must have exactly one bit.
+/* Runs a log from its start on a fresh machine of 32 threads and 128 locks. The setup byte says the rest: 16 times the number of CPUs, 8 more if
+ * every mask must have exactly one bit, and 4 more if the machine is wide. There are 1 to 4 CPUs, on a wide machine 1 to 16; 16 is written as 0, so
+ * that the setup byte of a wide machine of sixteen is 4. A wide machine of 1 to 4 CPUs is another than a narrow one: its owner words are wide.
  *
  * A record: byte 0 is 16 times the operation plus the CPU, byte 1 the thread, byte 2 the lock, byte 3 zero, bytes 4 to 7 A, bytes 8 to 11 B, the
  * last two most significant byte first. What an operation does not use is zero.
@@ -132,7 +149,7 @@ int32_t hubcrackle_validate_ipi_mask(uint32_t mask, uint32_t current_cpu, uint32
  *      8 pin       CPU, thread             the thread's mask
  *      9 priority  thread, A               0; A is -128 to 127, in two's complement
  *     10 ipi       CPU, thread             the CPUs to interrupt
- *     11 owner     lock                    the lock's owner word; thread t has thread word 4 (t + 1)
+ *     11 owner     lock                    the lock's owner word; thread t has thread word 4 (t + 1), wide 16 (t + 1)
  *     12 unwind    CPU, thread             how deep the CPU's locks were held, added up; it frees them all
  *
  * A plain acquire, A = 0, takes a free lock, and is EBUSY on a held one, to its holder too. A nested one, A = 1, takes the holder one level

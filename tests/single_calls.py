@@ -1,8 +1,9 @@
 #!/usr/bin/env python3
-"""Holds the lines of crates/single_calls to document 01, read a second time and independently of the code and its definitions.
+"""Holds the lines of crates/single_calls to the documents 01 and 02, read a second time and independently of the code and its definitions.
 
 Usage: tests/single_calls.py [FILE], by default the stored output. Each line names a call, its arguments and its answer; the answer is worked
-out again here from 01's sections "Codes" and "Single calls" alone. Ends with status 1 at the first line that differs.
+out again here from 01's sections "Codes" and "Single calls" and from 02's width of an owner word's tag alone. Ends with status 1 at the first
+line that differs.
 """
 import os
 import sys
@@ -26,21 +27,23 @@ def ones(mask):
     return bin(mask).count("1")
 
 
-def taggable(cpu, thread):
-    return cpu < 4 and thread != 0 and thread % 4 == 0
+def taggable(cpu, thread, tags):
+    return cpu < tags and thread != 0 and thread % tags == 0
 
 
 def owner_word(name, a):
+    # How many CPUs the tag tells apart.
+    tags = {0: 4, 1: 16}[a["wide"]]
     if name == "spin_lock_compute_owner":
-        return f"OK word {a['thread'] + a['cpu']}" if taggable(a["cpu"], a["thread"]) else "EINVAL word 0"
+        return f"OK word {a['thread'] + a['cpu']}" if taggable(a["cpu"], a["thread"], tags) else "EINVAL word 0"
     word = a["word"]
     if name == "spin_lock_decode_owner":
         if word == 0:
             return "OK free"
-        return "EINVAL none" if word < 4 else f"OK held thread {word - word % 4} cpu {word % 4}"
+        return "EINVAL none" if word < tags else f"OK held thread {word - word % tags} cpu {word % tags}"
     if name == "spin_lock_valid":
-        return "EINVAL no" if a["cpu"] >= 4 else "OK " + yes_no(not (word != 0 and word % 4 == a["cpu"]))
-    return "OK " + yes_no(word == a["thread"] + a["cpu"]) if taggable(a["cpu"], a["thread"]) else "EINVAL no"
+        return "EINVAL no" if a["cpu"] >= tags else "OK " + yes_no(not (word != 0 and word % tags == a["cpu"]))
+    return "OK " + yes_no(word == a["thread"] + a["cpu"]) if taggable(a["cpu"], a["thread"], tags) else "EINVAL no"
 
 
 def shown(owner, depth, irq):
@@ -137,11 +140,11 @@ def main():
         count = 0
         for line in lines:
             if not holds(line.rstrip("\n")):
-                sys.exit(f"not what 01 says: {line}")
+                sys.exit(f"not what 01 and 02 say: {line}")
             count += 1
     if count == 0:
         sys.exit("no lines")
-    print(f"{count} lines are what 01 says")
+    print(f"{count} lines are what 01 and 02 say")
 
 
 if __name__ == "__main__":

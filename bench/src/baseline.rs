@@ -1,4 +1,5 @@
-//! The rules of the machine and its log as one would write them in Rust for speed: one machine, changed in place.
+//! The rules of the machine and its log as one would write them in Rust for speed: one machine, changed in place, compiled once for each width of
+//! an owner word's tag.
 //!
 //! It shares nothing with the proved code but the document of rules. The benchmark compares both on the same bytes before it times them.
 
@@ -16,7 +17,11 @@ pub const RECORD_BYTES: usize = 12;
 pub const ANSWER_BYTES: usize = 8;
 const MAX_LOG_BYTES: usize = 24_576;
 
-const CPUS: usize = 4;
+/// The bit of a setup byte that asks for wide tags.
+const WIDE: u8 = 4;
+/// How many CPUs a tag tells apart, and what thread words are multiples of.
+const NARROW_CPUS: usize = 4;
+const WIDE_CPUS: usize = 16;
 const THREADS: usize = 32;
 const LOCKS: usize = 128;
 const IDLE: i32 = 128;
@@ -45,8 +50,9 @@ struct Lock {
     word: u64,
 }
 
+/// `CPUS` is how many CPUs a tag tells apart.
 #[derive(Clone)]
-pub struct Machine {
+pub struct Machine<const CPUS: usize> {
     n: usize,
     pin_only: bool,
     cpus: [Cpu; CPUS],
@@ -68,15 +74,11 @@ struct Record {
 /// A code and a value.
 type Answer = (i32, u32);
 
-fn thread_word(thread: u32) -> u64 {
-    4 * (u64::from(thread) + 1)
-}
-
 impl Lock {
     const FREE: Lock = Lock { owner: None, depth: 0, irq_saved: false, word: 0 };
 
-    fn take(&mut self, thread: u32, cpu: usize) {
-        *self = Lock { owner: Some(thread), depth: 1, irq_saved: true, word: thread_word(thread) + cpu as u64 };
+    fn take(&mut self, thread: u32, word: u64) {
+        *self = Lock { owner: Some(thread), depth: 1, irq_saved: true, word };
     }
 
     fn is_valid(&self) -> bool {
@@ -100,7 +102,8 @@ impl Record {
         }
     }
 
-    /// Used fields in range, all else zero.
+    /// Used fields in range, all else zero. Inlined in the loop of each width.
+    #[inline(always)]
     fn is_well_formed(&self, n: usize) -> bool {
         let cpu = self.cpu < n;
         let thread = self.thread < THREADS;
@@ -123,11 +126,13 @@ impl Record {
     }
 }
 
-impl Machine {
-    pub fn fresh(setup: u8) -> Option<Machine> {
-        let n = usize::from(setup >> 4);
+impl<const CPUS: usize> Machine<CPUS> {
+    /// The fresh machine of a setup byte for this width. In a wide one a CPU field of 0 means 16.
+    pub fn fresh(setup: u8) -> Option<Machine<CPUS>> {
+        let field = usize::from(setup >> 4);
+        let n = if CPUS == WIDE_CPUS && field == 0 { WIDE_CPUS } else { field };
         let pin_only = setup & 8 != 0;
-        if setup & 7 != 0 || n == 0 || n > CPUS {
+        if setup & 3 != 0 || n == 0 || n > CPUS {
             return None;
         }
         let mask = if pin_only { 1 } else { u32::MAX };
@@ -140,6 +145,16 @@ impl Machine {
         })
     }
 
+    /// The owner word of a thread on a CPU.
+    fn word(thread: u32, cpu: usize) -> u64 {
+        CPUS as u64 * (u64::from(thread) + 1) + cpu as u64
+    }
+
+    /// The CPU in an owner word.
+    fn cpu_of(word: u64) -> usize {
+        (word % CPUS as u64) as usize
+    }
+
     fn is_current(&self, cpu: usize, thread: u32) -> bool {
         cpu < self.n && self.cpus[cpu].current == Some(thread)
     }
@@ -149,8 +164,8 @@ impl Machine {
             && match lock.owner {
                 None => lock.word == 0,
                 Some(thread) => {
-                    let cpu = (lock.word % 4) as usize;
-                    lock.irq_saved && lock.word == thread_word(thread) + cpu as u64 && self.is_current(cpu, thread)
+                    let cpu = Self::cpu_of(lock.word);
+                    lock.irq_saved && lock.word == Self::word(thread, cpu) && self.is_current(cpu, thread)
                 }
             }
     }
@@ -183,7 +198,7 @@ impl Machine {
     fn is_well_formed(&self) -> bool {
         let mut holds = [0u32; CPUS];
         for lock in self.locks.iter().filter(|lock| lock.word != 0) {
-            holds[(lock.word % 4) as usize] += lock.depth;
+            holds[Self::cpu_of(lock.word)] += lock.depth;
         }
         (1..=CPUS).contains(&self.n)
             && self.locks.iter().all(|lock| self.lock_is_well_formed(lock))
@@ -249,8 +264,8 @@ impl Machine {
         let lock = &mut self.locks[l];
         let Some(thread) = cpu.current else { return (EINVAL, lock.depth) };
         if lock.owner.is_none() {
-            lock.take(thread, c);
-        } else if nested && lock.word == thread_word(thread) + c as u64 && lock.depth < MAX_DEPTH {
+            lock.take(thread, Self::word(thread, c));
+        } else if nested && lock.word == Self::word(thread, c) && lock.depth < MAX_DEPTH {
             lock.depth += 1;
         } else {
             return (EBUSY, lock.depth);
@@ -263,7 +278,7 @@ impl Machine {
         let cpu = &mut self.cpus[c];
         let lock = &mut self.locks[l];
         let Some(thread) = cpu.current else { return (EINVAL, lock.depth) };
-        if lock.word != thread_word(thread) + c as u64 {
+        if lock.word != Self::word(thread, c) {
             return (EPERM, lock.depth);
         }
         if lock.depth == 1 {
@@ -314,7 +329,7 @@ impl Machine {
         let hold = cpu.hold;
         cpu.hold = 0;
         for lock in &mut self.locks {
-            if lock.word != 0 && lock.word % 4 == c as u64 {
+            if lock.word != 0 && Self::cpu_of(lock.word) == c {
                 *lock = Lock::FREE;
             }
         }
@@ -367,13 +382,19 @@ impl Machine {
     }
 }
 
+/// A log on the fresh machine of a setup byte for one width. Not inlined, so that each width has a function of its own.
+#[inline(never)]
+fn run_fresh<const CPUS: usize>(setup: u8, log: &[u8], out: &mut [u8]) -> i32 {
+    match Machine::<CPUS>::fresh(setup) {
+        Some(mut machine) => machine.run(log, out),
+        None => EINVAL,
+    }
+}
+
 /// A log on the fresh machine of a setup byte, as the exported call runs it.
 #[inline(never)]
 pub extern "C" fn run(setup: u8, log: *const u8, log_len: usize, out: *mut u8, out_len: usize) -> i32 {
     // SAFETY: the benchmark's one caller passes two slices of its own, with their lengths.
     let (log, out) = unsafe { (slice::from_raw_parts(log, log_len), slice::from_raw_parts_mut(out, out_len)) };
-    match Machine::fresh(setup) {
-        Some(mut machine) => machine.run(log, out),
-        None => EINVAL,
-    }
+    if setup & WIDE == 0 { run_fresh::<NARROW_CPUS>(setup, log, out) } else { run_fresh::<WIDE_CPUS>(setup, log, out) }
 }

@@ -23,6 +23,8 @@ const ROUNDS: usize = 20_000;
 const GOAL: f64 = 1.2;
 const BYTES_A_CPU: usize = 5;
 const MAX_CPUS: usize = 16;
+/// The flag for a tag of two bits, the only one that upstream has.
+const NARROW: u32 = 0;
 
 /// Upstream's bodies as a C kernel would link them.
 mod theirs {
@@ -173,11 +175,11 @@ fn row(name: &str, inputs: &[Input], ours: impl Fn(&Input, *mut u8) -> i32, thei
     ratio
 }
 
-/// The same arguments to both sides.
+/// The same arguments to both sides, and to ours one more where upstream's side has none.
 macro_rules! row {
-    ($name:expr, $inputs:expr, $ours:ident, $theirs:ident, |$i:ident| ($($argument:expr),*)) => {
+    ($name:expr, $inputs:expr, $ours:ident, $theirs:ident, |$i:ident| ($($argument:expr),*) $(, $more:expr)?) => {
         // SAFETY: every room has ROOM bytes.
-        row($name, $inputs, |$i, out| unsafe { $ours($($argument,)* out, ROOM) }, |$i, out| theirs::$theirs($($argument,)* out, ROOM))
+        row($name, $inputs, |$i, out| unsafe { $ours($($argument,)* $($more,)? out, ROOM) }, |$i, out| theirs::$theirs($($argument,)* out, ROOM))
     };
 }
 
@@ -188,9 +190,9 @@ fn main() {
     let four = 4 * BYTES_A_CPU;
     let all = MAX_CPUS * BYTES_A_CPU;
     let mut ratios = vec![
-        row!("spin_lock_compute_owner", inputs, hubcrackle_spin_lock_compute_owner, compute_owner, |i| (i.cpu, i.thread)),
-        row!("spin_lock_valid", inputs, hubcrackle_spin_lock_valid, lock_valid, |i| (i.word, i.cpu)),
-        row!("spin_unlock_valid", inputs, hubcrackle_spin_unlock_valid, unlock_valid, |i| (i.word, i.cpu, i.thread)),
+        row!("spin_lock_compute_owner", inputs, hubcrackle_spin_lock_compute_owner, compute_owner, |i| (i.cpu, i.thread), NARROW),
+        row!("spin_lock_valid", inputs, hubcrackle_spin_lock_valid, lock_valid, |i| (i.word, i.cpu), NARROW),
+        row!("spin_unlock_valid", inputs, hubcrackle_spin_unlock_valid, unlock_valid, |i| (i.word, i.cpu, i.thread), NARROW),
         row!("cpu_mask_mod", inputs, hubcrackle_cpu_mask_mod, mask_mod, |i| (i.masks[0], i.masks[1], i.masks[2], 0, 0)),
         row!("cpu_mask_mod, pin-only", inputs, hubcrackle_cpu_mask_mod, mask_mod, |i| (i.masks[0], i.masks[1], i.masks[2], 0, 1)),
         row!("validate_pin_mask", inputs, hubcrackle_validate_pin_mask, pin_test, |i| (!i.masks[2])),

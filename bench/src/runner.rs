@@ -12,7 +12,7 @@ use std::time::Instant;
 
 use baseline::{ANSWER_BYTES, OK, RECORD_BYTES};
 use hubcrackle::hubcrackle_run;
-use logs::{KINDS, RECORDS, SETUP};
+use logs::{Controller, KINDS, Log, NARROW, RECORDS, WIDE};
 use random::Random;
 
 type Run = unsafe extern "C" fn(u8, *const u8, usize, *mut u8, usize) -> i32;
@@ -27,14 +27,19 @@ const ROUNDS: usize = 300;
 const FILL: u8 = 0x55;
 const PAST: usize = 5;
 /// The most that a log may take, as a ratio to the baseline: mixed, of one operation, of unwind, and empty.
-const MIXED_GOAL: f64 = 1.2;
-const ONLY_GOAL: f64 = 1.5;
-const UNWIND_GOAL: f64 = 2.0;
-const EMPTY_GOAL: f64 = 2.0;
+struct Goals {
+    mixed: f64,
+    only: f64,
+    unwind: f64,
+    empty: f64,
+}
 
-fn run(call: Run, log: &[u8], out: &mut [u8]) -> i32 {
+const NARROW_GOALS: Goals = Goals { mixed: 1.2, only: 1.3, unwind: 1.3, empty: 2.0 };
+const WIDE_GOALS: Goals = Goals { mixed: 1.5, only: 1.5, unwind: 1.5, empty: 2.0 };
+
+fn run(call: Run, log: &Log, out: &mut [u8]) -> i32 {
     // SAFETY: both calls take two slices with their lengths.
-    unsafe { call(SETUP, log.as_ptr(), log.len(), out.as_mut_ptr(), out.len()) }
+    unsafe { call(log.setup, log.bytes.as_ptr(), log.bytes.len(), out.as_mut_ptr(), out.len()) }
 }
 
 /// Of the records of a kind: how many were accepted, how many there were, and to how many of the accepted the value is not 0.
@@ -48,17 +53,17 @@ struct Count {
 type Counts = [Count; KINDS.len()];
 
 /// Runs each log both ways, ends the process where a byte differs, and counts the accepted records.
-fn compare(logs: &[Vec<u8>]) -> Counts {
+fn compare(logs: &[Log]) -> Counts {
     let mut counts = Counts::default();
     for log in logs {
         let [ours, theirs] = RUNS.map(|call| {
-            let mut out = vec![FILL; log.len() / RECORD_BYTES * ANSWER_BYTES + PAST];
+            let mut out = vec![FILL; log.bytes.len() / RECORD_BYTES * ANSWER_BYTES + PAST];
             assert_eq!(run(call, log, &mut out), OK, "a log was refused");
             out
         });
         let differs = ours.chunks(ANSWER_BYTES).zip(theirs.chunks(ANSWER_BYTES)).position(|(ours, theirs)| ours != theirs);
         assert_eq!(differs, None, "the two answers to this record of a log differ");
-        for (record, answer) in log.chunks_exact(RECORD_BYTES).zip(ours.chunks_exact(ANSWER_BYTES)) {
+        for (record, answer) in log.bytes.chunks_exact(RECORD_BYTES).zip(ours.chunks_exact(ANSWER_BYTES)) {
             let count = &mut counts[logs::kind_of(record)];
             let accepted = answer[..4] == OK.to_be_bytes();
             count.accepted += usize::from(accepted);
@@ -70,7 +75,7 @@ fn compare(logs: &[Vec<u8>]) -> Counts {
 }
 
 /// The time of one run in ns, the best of many rounds over the logs, for each of the two.
-fn times(logs: &[Vec<u8>]) -> [f64; 2] {
+fn times(logs: &[Log]) -> [f64; 2] {
     let mut out = vec![FILL; RECORDS * ANSWER_BYTES];
     let mut best = [f64::MAX; 2];
     for _ in 0..ROUNDS {
@@ -86,17 +91,17 @@ fn times(logs: &[Vec<u8>]) -> [f64; 2] {
 }
 
 /// Times the logs, prints a row, and says whether the goal is met. `count` is by how much a run's time is divided.
-fn row(name: &str, logs: &[Vec<u8>], count: usize, goal: f64) -> bool {
+fn row(name: &str, logs: &[Log], count: usize, goal: f64) -> bool {
     let (accepted, all) = compare(logs).iter().fold((0, 0), |sum, of| (sum.0 + of.accepted, sum.1 + of.all));
     let [ours, theirs] = times(logs).map(|time| time / count as f64);
     let accepted = format!("{accepted}/{all}");
-    println!("{name:<15} {accepted:>12} {ours:>10.2} {theirs:>10.2} {:>7.2} {goal:>5.1}", ours / theirs);
+    println!("{name:<21} {accepted:>12} {ours:>10.2} {theirs:>10.2} {:>7.2} {goal:>5.1}", ours / theirs);
     ours / theirs <= goal
 }
 
-/// Prints how often each kind of record of the mixed logs is accepted. The process ends if one never is, or if no unwind frees a lock.
-fn print_accepted(mixed: &[Vec<u8>]) {
-    print!("accepted in the mixed logs:");
+/// Prints how often each kind of record of mixed logs is accepted. The process ends if one never is, or if no unwind frees a lock.
+fn print_accepted(width: &str, mixed: &[Log]) {
+    print!("accepted in the {width}mixed logs:");
     for (name, Count { accepted, all, valued }) in KINDS.iter().zip(compare(mixed)) {
         assert!(accepted > 0, "{name} is never accepted: the logs do not keep it busy");
         print!(" {name} {accepted}/{all}");
@@ -108,24 +113,34 @@ fn print_accepted(mixed: &[Vec<u8>]) {
     println!();
 }
 
+/// The rows of a controller, each name after the width, with its mixed logs.
+fn rows<const CPUS: usize>(controller: &Controller<CPUS>, width: &str, goals: &Goals, random: &mut Random) -> (Vec<bool>, Vec<Log>) {
+    let mixed: Vec<_> = (0..LOGS).map(|_| controller.mixed(random)).collect();
+    let mut met = Vec::new();
+    let mut add = |name: &str, logs: &[Log], count, goal| met.push(row(&format!("{width}{name}"), logs, count, goal));
+    for (kind, name) in KINDS.iter().enumerate() {
+        let only: Vec<_> = (0..LOGS).map(|_| controller.only(kind, random)).collect();
+        let goal = if *name == "unwind" { goals.unwind } else { goals.only };
+        add(&format!("{name} only"), &only, RECORDS, goal);
+    }
+    add("unwind, running", &vec![controller.unwind_running(); LOGS], RECORDS, goals.unwind);
+    for (name, pinned) in [("ipi, one CPU", true), ("ipi, all CPUs", false)] {
+        let logs: Vec<_> = (0..LOGS).map(|_| controller.interrupts(pinned, random)).collect();
+        add(name, &logs, RECORDS, goals.only);
+    }
+    add("mixed", &mixed, RECORDS, goals.mixed);
+    add("empty log", &vec![controller.empty(); LOGS], 1, goals.empty);
+    (met, mixed)
+}
+
 fn main() {
     let mut random = Random::new(SEED);
-    let mixed: Vec<_> = (0..LOGS).map(|_| logs::mixed(&mut random)).collect();
     println!("{LOGS} logs of {RECORDS} records, best of {ROUNDS} rounds; ns a record, and of the empty log ns a run");
-    println!("{:<15} {:>12} {:>10} {:>10} {:>7} {:>5}", "log", "accepted", "proved", "baseline", "ratio", "goal");
-    let mut met = Vec::new();
-    for (kind, name) in KINDS.iter().enumerate() {
-        let only: Vec<_> = (0..LOGS).map(|_| logs::only(kind, &mut random)).collect();
-        let goal = if *name == "unwind" { UNWIND_GOAL } else { ONLY_GOAL };
-        met.push(row(&format!("{name} only"), &only, RECORDS, goal));
-    }
-    met.push(row("unwind, running", &vec![logs::unwind_running(); LOGS], RECORDS, UNWIND_GOAL));
-    for (name, pinned) in [("ipi, one CPU", true), ("ipi, all CPUs", false)] {
-        let logs: Vec<_> = (0..LOGS).map(|_| logs::interrupts(pinned, &mut random)).collect();
-        met.push(row(name, &logs, RECORDS, ONLY_GOAL));
-    }
-    met.push(row("mixed", &mixed, RECORDS, MIXED_GOAL));
-    met.push(row("empty log", &vec![Vec::new(); LOGS], 1, EMPTY_GOAL));
-    print_accepted(&mixed);
+    println!("{:<21} {:>12} {:>10} {:>10} {:>7} {:>5}", "log", "accepted", "proved", "baseline", "ratio", "goal");
+    let (mut met, narrow) = rows(&NARROW, "", &NARROW_GOALS, &mut random);
+    let (wide_met, wide) = rows(&WIDE, "wide: ", &WIDE_GOALS, &mut random);
+    met.extend(wide_met);
+    print_accepted("", &narrow);
+    print_accepted("wide ", &wide);
     println!("{} of {} logs over their goal", met.iter().filter(|met| !**met).count(), met.len());
 }

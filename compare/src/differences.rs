@@ -13,6 +13,8 @@ pub enum Difference {
     DecodeOwner,
     LockValid,
     UnlockValid,
+    Width,
+    WidthFlag,
     InvalidRecord,
     ReleaseCheck,
     MaskFlags,
@@ -25,7 +27,7 @@ pub enum Difference {
 }
 
 /// Where it is, what upstream does, what is done here, and why.
-pub const ROWS: [[&str; 4]; 13] = [
+pub const ROWS: [[&str; 4]; 15] = [
     [
         "spin_lock_compute_owner",
         "requires a CPU below 4 and a thread word that is nonzero and aligned",
@@ -40,6 +42,13 @@ pub const ROWS: [[&str; 4]; 13] = [
     ],
     ["spin_lock_valid", "requires a CPU below 4", "EINVAL, no", "each `requires` becomes a refusal"],
     ["spin_unlock_valid", "requires a CPU below 4 and a thread word that is nonzero and aligned", "EINVAL, no", "each `requires` becomes a refusal"],
+    [
+        "the four calls on owner words",
+        "a tag of two bits",
+        "a width: two bits, or four, where a CPU is below 16, a thread word is a multiple of 16 and words 1 to 15 are EINVAL",
+        "02 asks for sixteen CPUs",
+    ],
+    ["the four calls on owner words, exported", "no width", "EINVAL if `wide` is neither 0 nor 1", "flags cross the C boundary as numbers"],
     [
         "every call on a lock record",
         "requires a valid record",

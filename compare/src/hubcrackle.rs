@@ -3,10 +3,10 @@
 #![allow(dead_code)]
 
 unsafe extern "C" {
-    pub fn hubcrackle_spin_lock_compute_owner(cpu: u32, thread: u64, out: *mut u8, out_len: usize) -> i32;
-    pub fn hubcrackle_spin_lock_decode_owner(word: u64, out: *mut u8, out_len: usize) -> i32;
-    pub fn hubcrackle_spin_lock_valid(word: u64, cpu: u32, out: *mut u8, out_len: usize) -> i32;
-    pub fn hubcrackle_spin_unlock_valid(word: u64, cpu: u32, thread: u64, out: *mut u8, out_len: usize) -> i32;
+    pub fn hubcrackle_spin_lock_compute_owner(cpu: u32, thread: u64, wide: u32, out: *mut u8, out_len: usize) -> i32;
+    pub fn hubcrackle_spin_lock_decode_owner(word: u64, wide: u32, out: *mut u8, out_len: usize) -> i32;
+    pub fn hubcrackle_spin_lock_valid(word: u64, cpu: u32, wide: u32, out: *mut u8, out_len: usize) -> i32;
+    pub fn hubcrackle_spin_unlock_valid(word: u64, cpu: u32, thread: u64, wide: u32, out: *mut u8, out_len: usize) -> i32;
     pub fn hubcrackle_cpu_mask_mod(mask: u32, enable: u32, disable: u32, running: u32, pin_only: u32, out: *mut u8, out_len: usize) -> i32;
     pub fn hubcrackle_validate_pin_mask(mask: u32, out: *mut u8, out_len: usize) -> i32;
     pub fn hubcrackle_cpu_pin_compute(cpu: u32, max_cpus: u32, out: *mut u8, out_len: usize) -> i32;

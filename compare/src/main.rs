@@ -1,5 +1,6 @@
-//! Compares the exported calls with upstream's bodies, their Verus text erased, on the same inputs. It stops at the first difference that is not in
-//! the list of differences.rs, which docs/DIFFERENCES.md has too.
+//! Compares the exported calls with upstream's bodies, their Verus text erased, on the same inputs, and the owner word with a wide tag, of which
+//! upstream has nothing, with a plain account of it. It stops at the first difference that is not in the list of differences.rs, which
+//! docs/DIFFERENCES.md has too.
 
 mod differences;
 mod hubcrackle;
@@ -12,6 +13,7 @@ mod random;
 mod sample;
 mod stored;
 mod tally;
+mod wide;
 
 use ours::Judge;
 use random::Random;
@@ -24,7 +26,12 @@ const LEAST_CALLS: u64 = 10_000_000;
 /// A part of the comparison: adds its calls to the judge's.
 type Part = fn(&mut Judge, &mut Random);
 
-const EXPORTED: [(&str, Part); 3] = [("owner word", owner::compare), ("masks and pins", mask::compare), ("interrupts", interrupt::compare)];
+const EXPORTED: [(&str, Part); 4] = [
+    ("owner word", owner::compare),
+    ("masks and pins", mask::compare),
+    ("interrupts", interrupt::compare),
+    ("owner word with a wide tag", wide::compare),
+];
 
 /// Prints how many calls a part has made, and gives the count so far.
 fn told(part: &str, tally: &Tally, before: u64) -> u64 {
@@ -39,6 +46,7 @@ fn main() {
     let mut judge = Judge::new(sample);
     let mut before = 0;
     for (part, compare) in EXPORTED {
+        judge.begin();
         compare(&mut judge, &mut random);
         before = told(part, &judge.tally, before);
     }

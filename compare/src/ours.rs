@@ -15,13 +15,17 @@ pub const EINVAL: i32 = -22;
 pub const ROOM: usize = 12;
 pub const FILL: u8 = 0x55;
 
+/// The flag of the owner-word calls: a tag of two bits, or of four.
+pub const NARROW: u32 = 0;
+pub const WIDE: u32 = 1;
+
 /// A call of one exported function.
 #[derive(Clone, Copy, Debug)]
 pub enum Call<'a> {
-    ComputeOwner { cpu: u32, thread: u64 },
-    DecodeOwner { word: u64 },
-    LockValid { word: u64, cpu: u32 },
-    UnlockValid { word: u64, cpu: u32, thread: u64 },
+    ComputeOwner { cpu: u32, thread: u64, wide: u32 },
+    DecodeOwner { word: u64, wide: u32 },
+    LockValid { word: u64, cpu: u32, wide: u32 },
+    UnlockValid { word: u64, cpu: u32, thread: u64, wide: u32 },
     MaskMod { mask: u32, enable: u32, disable: u32, running: u32, pin_only: u32 },
     PinTest { mask: u32 },
     Pin { cpu: u32, max_cpus: u32 },
@@ -36,10 +40,10 @@ impl Call<'_> {
         // SAFETY: each pointer comes with the length of its slice.
         unsafe {
             match *self {
-                Call::ComputeOwner { cpu, thread } => hubcrackle_spin_lock_compute_owner(cpu, thread, out, len),
-                Call::DecodeOwner { word } => hubcrackle_spin_lock_decode_owner(word, out, len),
-                Call::LockValid { word, cpu } => hubcrackle_spin_lock_valid(word, cpu, out, len),
-                Call::UnlockValid { word, cpu, thread } => hubcrackle_spin_unlock_valid(word, cpu, thread, out, len),
+                Call::ComputeOwner { cpu, thread, wide } => hubcrackle_spin_lock_compute_owner(cpu, thread, wide, out, len),
+                Call::DecodeOwner { word, wide } => hubcrackle_spin_lock_decode_owner(word, wide, out, len),
+                Call::LockValid { word, cpu, wide } => hubcrackle_spin_lock_valid(word, cpu, wide, out, len),
+                Call::UnlockValid { word, cpu, thread, wide } => hubcrackle_spin_unlock_valid(word, cpu, thread, wide, out, len),
                 Call::MaskMod { mask, enable, disable, running, pin_only } => {
                     hubcrackle_cpu_mask_mod(mask, enable, disable, running, pin_only, out, len)
                 }
@@ -69,6 +73,13 @@ pub struct Judge {
 impl Judge {
     pub fn new(sample: Option<Sample>) -> Judge {
         Judge { tally: Tally::default(), sample }
+    }
+
+    /// Begins a part of the comparison.
+    pub fn begin(&mut self) {
+        if let Some(sample) = &mut self.sample {
+            sample.begin();
+        }
     }
 
     fn hold(&mut self, kind: Kind, call: Call, len: usize, code: i32, value: &[u8]) {
@@ -128,14 +139,24 @@ impl Judge {
         self.refused(Kind::Boundary, call);
     }
 
+    /// The call must give this value, or be refused where there is none.
+    fn answered(&mut self, kind: Kind, call: Call, value: Option<&[u8]>) {
+        match value {
+            Some(value) => self.accepted(kind, call, value),
+            None => self.refused(kind, call),
+        }
+    }
+
     /// A word and its decoding, none where it has none.
     pub fn decodes(&mut self, word: u64, value: Option<[u8; 9]>) {
-        let call = Call::DecodeOwner { word };
         self.tally.meet(Difference::DecodeOwner);
-        match value {
-            Some(value) => self.accepted(Kind::Decoded, call, &value),
-            None => self.refused(Kind::Decoded, call),
-        }
+        self.answered(Kind::Decoded, Call::DecodeOwner { word, wide: NARROW }, value.as_ref().map(|value| &value[..]));
+    }
+
+    /// A call with a wide tag and its value, none where it is refused.
+    pub fn widens(&mut self, call: Call, value: Option<&[u8]>) {
+        self.tally.meet(Difference::Width);
+        self.answered(Kind::Wide, call, value);
     }
 
     /// Writes the sample, if there is one, and hands the counts back.

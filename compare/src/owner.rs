@@ -1,9 +1,9 @@
-//! The owner word.
+//! The owner word with a tag of two bits, as upstream has it.
 
 use upstream::spinlock_validate as theirs;
 
 use crate::differences::Difference;
-use crate::ours::{Call, Judge};
+use crate::ours::{Call, Judge, NARROW};
 use crate::random::{Random, limits};
 
 /// Upstream's `requires`: outside it our calls refuse.
@@ -16,7 +16,7 @@ fn thread_fits(thread: u64) -> bool {
 }
 
 fn compute(judge: &mut Judge, cpu: u32, thread: u64) {
-    let call = Call::ComputeOwner { cpu, thread };
+    let call = Call::ComputeOwner { cpu, thread, wide: NARROW };
     if !cpu_fits(cpu) || !thread_fits(thread) {
         return judge.excludes(call, Difference::ComputeOwner);
     }
@@ -30,7 +30,7 @@ fn compute(judge: &mut Judge, cpu: u32, thread: u64) {
 }
 
 fn lock_valid(judge: &mut Judge, word: u64, cpu: u32) {
-    let call = Call::LockValid { word, cpu };
+    let call = Call::LockValid { word, cpu, wide: NARROW };
     if cpu_fits(cpu) {
         judge.gives(call, &[theirs::spin_lock_valid(word as usize, cpu).into()]);
     } else {
@@ -39,7 +39,7 @@ fn lock_valid(judge: &mut Judge, word: u64, cpu: u32) {
 }
 
 fn unlock_valid(judge: &mut Judge, word: u64, cpu: u32, thread: u64) {
-    let call = Call::UnlockValid { word, cpu, thread };
+    let call = Call::UnlockValid { word, cpu, thread, wide: NARROW };
     if cpu_fits(cpu) && thread_fits(thread) {
         judge.gives(call, &[theirs::spin_unlock_valid(word as usize, cpu, thread as usize).into()]);
     } else {

@@ -1,4 +1,4 @@
-//! A sample of calls with what upstream's bodies answer, for the program that replays it (crates/vectors).
+//! A sample of calls with what they were held to, for the program that replays it (crates/vectors).
 //!
 //! A line for each call: the function's name, its input and the answer, as hexadecimal bytes, high bytes first. The input is the function's number,
 //! the length of the room, and the arguments at their width. The answer is the code, four bytes, and the twelve bytes of the room afterwards.
@@ -21,7 +21,7 @@ const NAMES: [&str; 9] = [
     "validate_ipi_mask",
 ];
 
-/// Of each function every so many-th call is kept, at the start and later on, up to the most.
+/// Of each function every so many-th call of a part is kept, at the start and later on, up to the most.
 const OFTEN: u64 = 7;
 const SELDOM: u64 = 10_007;
 const EARLY: u64 = 24 * OFTEN;
@@ -37,19 +37,19 @@ pub struct Sample {
 /// A function's number, and its arguments as bytes.
 fn input(call: &Call) -> (u8, Vec<u8>) {
     let words = |words: &[u32]| words.iter().flat_map(|word| word.to_be_bytes()).collect::<Vec<_>>();
-    let with = |mut bytes: Vec<u8>, more: &[u8]| {
-        bytes.extend(more);
-        bytes
-    };
     match *call {
-        Call::ComputeOwner { cpu, thread } => (0, with(words(&[cpu]), &thread.to_be_bytes())),
-        Call::DecodeOwner { word } => (1, word.to_be_bytes().to_vec()),
-        Call::LockValid { word, cpu } => (2, with(words(&[cpu]), &word.to_be_bytes())),
-        Call::UnlockValid { word, cpu, thread } => (3, with(with(words(&[cpu]), &word.to_be_bytes()), &thread.to_be_bytes())),
+        Call::ComputeOwner { cpu, thread, wide } => (0, [&cpu.to_be_bytes()[..], &thread.to_be_bytes(), &wide.to_be_bytes()].concat()),
+        Call::DecodeOwner { word, wide } => (1, [&word.to_be_bytes()[..], &wide.to_be_bytes()].concat()),
+        Call::LockValid { word, cpu, wide } => (2, [&cpu.to_be_bytes()[..], &word.to_be_bytes(), &wide.to_be_bytes()].concat()),
+        Call::UnlockValid { word, cpu, thread, wide } => {
+            (3, [&cpu.to_be_bytes()[..], &word.to_be_bytes(), &thread.to_be_bytes(), &wide.to_be_bytes()].concat())
+        }
         Call::MaskMod { mask, enable, disable, running, pin_only } => (4, words(&[mask, enable, disable, running, pin_only])),
         Call::PinTest { mask } => (5, words(&[mask])),
         Call::Pin { cpu, max_cpus } => (6, words(&[cpu, max_cpus])),
-        Call::Ipi { current, prio, mask, cpus, num_cpus, max_cpus } => (7, with(words(&[current, prio as u32, mask, num_cpus, max_cpus]), cpus)),
+        Call::Ipi { current, prio, mask, cpus, num_cpus, max_cpus } => {
+            (7, [&words(&[current, prio as u32, mask, num_cpus, max_cpus]), cpus].concat())
+        }
         Call::IpiTest { mask, current, max_cpus } => (8, words(&[mask, current, max_cpus])),
     }
 }
@@ -63,6 +63,12 @@ fn hex(text: &mut String, bytes: &[u8]) {
 impl Sample {
     pub fn new(path: PathBuf) -> Sample {
         Sample { path, seen: [0; NAMES.len()], kept: [0; NAMES.len()], text: String::new() }
+    }
+
+    /// Counts from zero again, for the next part.
+    pub fn begin(&mut self) {
+        self.seen.fill(0);
+        self.kept.fill(0);
     }
 
     pub fn add(&mut self, call: &Call, len: usize, code: i32, room: &[u8; ROOM]) {
@@ -86,6 +92,6 @@ impl Sample {
 
     pub fn write(self) {
         fs::write(&self.path, &self.text).unwrap_or_else(|e| panic!("{}: {e}", self.path.display()));
-        println!("{}: {} calls", self.path.display(), self.kept.iter().sum::<usize>());
+        println!("{}: {} calls", self.path.display(), self.text.lines().count());
     }
 }

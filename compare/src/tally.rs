@@ -9,15 +9,17 @@ pub enum Kind {
     Excluded,
     Boundary,
     Decoded,
+    Wide,
     Repeated,
 }
 
 /// What is printed of each kind.
-const KINDS: [&str; 5] = [
+const KINDS: [&str; 6] = [
     "upstream's body ran, and both answers were compared",
     "refused, where upstream's `requires` excludes the call",
     "refused by the C boundary's own tests of flags and CPU bytes",
     "decodings, for which upstream has no body",
+    "wide tags, which upstream does not have, by the account in compare/src/wide.rs",
     "repeats with room for the value alone, for one byte less, or for nothing",
 ];
 

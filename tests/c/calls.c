@@ -85,45 +85,99 @@ static void owner_words(void)
 {
     const uint64_t last = UINT64_MAX - 3;
 
-    TRY(OK, "000000000000000b", hubcrackle_spin_lock_compute_owner(3, 8, out, 8)); /* M1 */
-    TRY(OK, "0123456789abcdee", hubcrackle_spin_lock_compute_owner(2, 0x0123456789abcdecu, out, 20));
-    TRY(OK, "ffffffffffffffff", hubcrackle_spin_lock_compute_owner(3, last, out, 8));
-    TRY(EINVAL, "", hubcrackle_spin_lock_compute_owner(4, 8, out, 8));
-    TRY(EINVAL, "", hubcrackle_spin_lock_compute_owner(UINT32_MAX, 8, out, 8));
-    TRY(EINVAL, "", hubcrackle_spin_lock_compute_owner(0, 0, out, 8));
-    TRY(EINVAL, "", hubcrackle_spin_lock_compute_owner(0, 10, out, 8));
-    TRY(EINVAL, "", hubcrackle_spin_lock_compute_owner(4, 8, out, 0));
-    TRY(ENOMEM, "", hubcrackle_spin_lock_compute_owner(3, 8, out, 7));
-    TRY(ENOMEM, "", hubcrackle_spin_lock_compute_owner(3, 8, out, 0));
+    TRY(OK, "000000000000000b", hubcrackle_spin_lock_compute_owner(3, 8, 0, out, 8)); /* M1 */
+    TRY(OK, "0123456789abcdee", hubcrackle_spin_lock_compute_owner(2, 0x0123456789abcdecu, 0, out, 20));
+    TRY(OK, "ffffffffffffffff", hubcrackle_spin_lock_compute_owner(3, last, 0, out, 8));
+    TRY(EINVAL, "", hubcrackle_spin_lock_compute_owner(4, 8, 0, out, 8));
+    TRY(EINVAL, "", hubcrackle_spin_lock_compute_owner(UINT32_MAX, 8, 0, out, 8));
+    TRY(EINVAL, "", hubcrackle_spin_lock_compute_owner(0, 0, 0, out, 8));
+    TRY(EINVAL, "", hubcrackle_spin_lock_compute_owner(0, 10, 0, out, 8));
+    TRY(EINVAL, "", hubcrackle_spin_lock_compute_owner(4, 8, 0, out, 0));
+    TRY(ENOMEM, "", hubcrackle_spin_lock_compute_owner(3, 8, 0, out, 7));
+    TRY(ENOMEM, "", hubcrackle_spin_lock_compute_owner(3, 8, 0, out, 0));
 
-    TRY(OK, "000000000000000803", hubcrackle_spin_lock_decode_owner(11, out, 9)); /* M1 */
-    TRY(OK, "000000000000000000", hubcrackle_spin_lock_decode_owner(0, out, 9));  /* M2 */
-    TRY(OK, "000000000000000400", hubcrackle_spin_lock_decode_owner(4, out, 9));
-    TRY(OK, "0123456789abcdec02", hubcrackle_spin_lock_decode_owner(0x0123456789abcdeeu, out, 30));
-    TRY(OK, "fffffffffffffffc03", hubcrackle_spin_lock_decode_owner(UINT64_MAX, out, 9));
-    TRY(EINVAL, "", hubcrackle_spin_lock_decode_owner(1, out, 9));
-    TRY(EINVAL, "", hubcrackle_spin_lock_decode_owner(3, out, 9)); /* M2 */
-    TRY(EINVAL, "", hubcrackle_spin_lock_decode_owner(2, out, 0));
-    TRY(ENOMEM, "", hubcrackle_spin_lock_decode_owner(11, out, 8));
-    TRY(ENOMEM, "", hubcrackle_spin_lock_decode_owner(0, out, 8));
+    TRY(OK, "000000000000000803", hubcrackle_spin_lock_decode_owner(11, 0, out, 9)); /* M1 */
+    TRY(OK, "000000000000000000", hubcrackle_spin_lock_decode_owner(0, 0, out, 9));  /* M2 */
+    TRY(OK, "000000000000000400", hubcrackle_spin_lock_decode_owner(4, 0, out, 9));
+    TRY(OK, "0123456789abcdec02", hubcrackle_spin_lock_decode_owner(0x0123456789abcdeeu, 0, out, 30));
+    TRY(OK, "fffffffffffffffc03", hubcrackle_spin_lock_decode_owner(UINT64_MAX, 0, out, 9));
+    TRY(EINVAL, "", hubcrackle_spin_lock_decode_owner(1, 0, out, 9));
+    TRY(EINVAL, "", hubcrackle_spin_lock_decode_owner(3, 0, out, 9)); /* M2 */
+    TRY(EINVAL, "", hubcrackle_spin_lock_decode_owner(2, 0, out, 0));
+    TRY(ENOMEM, "", hubcrackle_spin_lock_decode_owner(11, 0, out, 8));
+    TRY(ENOMEM, "", hubcrackle_spin_lock_decode_owner(0, 0, out, 8));
 
-    TRY(OK, "01", hubcrackle_spin_lock_valid(0, 0, out, 1));
-    TRY(OK, "00", hubcrackle_spin_lock_valid(2, 2, out, 1)); /* M3 */
-    TRY(OK, "00", hubcrackle_spin_lock_valid(11, 3, out, 1));
-    TRY(OK, "01", hubcrackle_spin_lock_valid(11, 2, out, 5));
-    TRY(EINVAL, "", hubcrackle_spin_lock_valid(11, 4, out, 1));
-    TRY(EINVAL, "", hubcrackle_spin_lock_valid(0, 4, out, 0));
-    TRY(ENOMEM, "", hubcrackle_spin_lock_valid(11, 3, out, 0));
+    TRY(OK, "01", hubcrackle_spin_lock_valid(0, 0, 0, out, 1));
+    TRY(OK, "00", hubcrackle_spin_lock_valid(2, 2, 0, out, 1)); /* M3 */
+    TRY(OK, "00", hubcrackle_spin_lock_valid(11, 3, 0, out, 1));
+    TRY(OK, "01", hubcrackle_spin_lock_valid(11, 2, 0, out, 5));
+    TRY(EINVAL, "", hubcrackle_spin_lock_valid(11, 4, 0, out, 1));
+    TRY(EINVAL, "", hubcrackle_spin_lock_valid(0, 4, 0, out, 0));
+    TRY(ENOMEM, "", hubcrackle_spin_lock_valid(11, 3, 0, out, 0));
 
-    TRY(OK, "01", hubcrackle_spin_unlock_valid(11, 3, 8, out, 1));
-    TRY(OK, "00", hubcrackle_spin_unlock_valid(11, 2, 8, out, 1));
-    TRY(OK, "00", hubcrackle_spin_unlock_valid(11, 3, 12, out, 6));
-    TRY(OK, "00", hubcrackle_spin_unlock_valid(0, 0, 4, out, 1));
-    TRY(OK, "01", hubcrackle_spin_unlock_valid(UINT64_MAX, 3, last, out, 1));
-    TRY(EINVAL, "", hubcrackle_spin_unlock_valid(12, 4, 8, out, 1));
-    TRY(EINVAL, "", hubcrackle_spin_unlock_valid(3, 3, 0, out, 1));
-    TRY(EINVAL, "", hubcrackle_spin_unlock_valid(9, 0, 9, out, 0));
-    TRY(ENOMEM, "", hubcrackle_spin_unlock_valid(11, 3, 8, out, 0));
+    TRY(OK, "01", hubcrackle_spin_unlock_valid(11, 3, 8, 0, out, 1));
+    TRY(OK, "00", hubcrackle_spin_unlock_valid(11, 2, 8, 0, out, 1));
+    TRY(OK, "00", hubcrackle_spin_unlock_valid(11, 3, 12, 0, out, 6));
+    TRY(OK, "00", hubcrackle_spin_unlock_valid(0, 0, 4, 0, out, 1));
+    TRY(OK, "01", hubcrackle_spin_unlock_valid(UINT64_MAX, 3, last, 0, out, 1));
+    TRY(EINVAL, "", hubcrackle_spin_unlock_valid(12, 4, 8, 0, out, 1));
+    TRY(EINVAL, "", hubcrackle_spin_unlock_valid(3, 3, 0, 0, out, 1));
+    TRY(EINVAL, "", hubcrackle_spin_unlock_valid(9, 0, 9, 0, out, 0));
+    TRY(ENOMEM, "", hubcrackle_spin_unlock_valid(11, 3, 8, 0, out, 0));
+}
+
+/* Owner words with a tag of four bits, and flags that are neither 0 nor 1. */
+static void wide_owner_words(void)
+{
+    const uint64_t last = UINT64_MAX - 15;
+
+    TRY(OK, "000000000000001f", hubcrackle_spin_lock_compute_owner(15, 16, 1, out, 8));
+    TRY(OK, "0123456789abcde9", hubcrackle_spin_lock_compute_owner(9, 0x0123456789abcde0u, 1, out, 20));
+    TRY(OK, "ffffffffffffffff", hubcrackle_spin_lock_compute_owner(15, last, 1, out, 8));
+    TRY(EINVAL, "", hubcrackle_spin_lock_compute_owner(16, 16, 1, out, 8));
+    TRY(EINVAL, "", hubcrackle_spin_lock_compute_owner(UINT32_MAX, 16, 1, out, 8));
+    TRY(EINVAL, "", hubcrackle_spin_lock_compute_owner(15, 0, 1, out, 8));
+    TRY(EINVAL, "", hubcrackle_spin_lock_compute_owner(15, 8, 1, out, 8));
+    TRY(EINVAL, "", hubcrackle_spin_lock_compute_owner(15, 16, 0, out, 8));
+    TRY(EINVAL, "", hubcrackle_spin_lock_compute_owner(3, 16, 2, out, 8));
+    TRY(EINVAL, "", hubcrackle_spin_lock_compute_owner(3, 16, UINT32_MAX, out, 0));
+    TRY(ENOMEM, "", hubcrackle_spin_lock_compute_owner(15, 16, 1, out, 7));
+
+    TRY(OK, "00000000000000100f", hubcrackle_spin_lock_decode_owner(31, 1, out, 9));
+    TRY(OK, "000000000000001000", hubcrackle_spin_lock_decode_owner(16, 1, out, 9));
+    TRY(OK, "000000000000000000", hubcrackle_spin_lock_decode_owner(0, 1, out, 9));
+    TRY(OK, "0123456789abcde009", hubcrackle_spin_lock_decode_owner(0x0123456789abcde9u, 1, out, 30));
+    TRY(OK, "fffffffffffffff00f", hubcrackle_spin_lock_decode_owner(UINT64_MAX, 1, out, 9));
+    TRY(OK, "000000000000000c03", hubcrackle_spin_lock_decode_owner(15, 0, out, 9));
+    TRY(EINVAL, "", hubcrackle_spin_lock_decode_owner(15, 1, out, 9));
+    TRY(EINVAL, "", hubcrackle_spin_lock_decode_owner(4, 1, out, 9));
+    TRY(EINVAL, "", hubcrackle_spin_lock_decode_owner(1, 1, out, 0));
+    TRY(EINVAL, "", hubcrackle_spin_lock_decode_owner(31, 2, out, 9));
+    TRY(EINVAL, "", hubcrackle_spin_lock_decode_owner(0, UINT32_MAX, out, 0));
+    TRY(ENOMEM, "", hubcrackle_spin_lock_decode_owner(31, 1, out, 8));
+
+    TRY(OK, "01", hubcrackle_spin_lock_valid(0, 15, 1, out, 1));
+    TRY(OK, "00", hubcrackle_spin_lock_valid(31, 15, 1, out, 1));
+    TRY(OK, "00", hubcrackle_spin_lock_valid(15, 15, 1, out, 1));
+    TRY(OK, "01", hubcrackle_spin_lock_valid(31, 3, 1, out, 5));
+    TRY(OK, "00", hubcrackle_spin_lock_valid(31, 3, 0, out, 1));
+    TRY(EINVAL, "", hubcrackle_spin_lock_valid(31, 16, 1, out, 1));
+    TRY(EINVAL, "", hubcrackle_spin_lock_valid(31, 15, 0, out, 1));
+    TRY(EINVAL, "", hubcrackle_spin_lock_valid(31, 3, 2, out, 1));
+    TRY(EINVAL, "", hubcrackle_spin_lock_valid(0, 0, UINT32_MAX, out, 0));
+    TRY(ENOMEM, "", hubcrackle_spin_lock_valid(31, 15, 1, out, 0));
+
+    TRY(OK, "01", hubcrackle_spin_unlock_valid(31, 15, 16, 1, out, 1));
+    TRY(OK, "00", hubcrackle_spin_unlock_valid(31, 14, 16, 1, out, 1));
+    TRY(OK, "00", hubcrackle_spin_unlock_valid(31, 15, 32, 1, out, 6));
+    TRY(OK, "00", hubcrackle_spin_unlock_valid(0, 0, 16, 1, out, 1));
+    TRY(OK, "01", hubcrackle_spin_unlock_valid(UINT64_MAX, 15, last, 1, out, 1));
+    TRY(EINVAL, "", hubcrackle_spin_unlock_valid(32, 16, 16, 1, out, 1));
+    TRY(EINVAL, "", hubcrackle_spin_unlock_valid(15, 15, 0, 1, out, 1));
+    TRY(EINVAL, "", hubcrackle_spin_unlock_valid(11, 3, 8, 1, out, 0));
+    TRY(EINVAL, "", hubcrackle_spin_unlock_valid(19, 3, 16, 2, out, 1));
+    TRY(EINVAL, "", hubcrackle_spin_unlock_valid(19, 3, 16, UINT32_MAX, out, 0));
+    TRY(ENOMEM, "", hubcrackle_spin_unlock_valid(31, 15, 16, 1, out, 0));
 }
 
 static void masks(void)
@@ -347,6 +401,71 @@ static void unwinds(void)
         hubcrackle_run(0x20, log, log_len, out, 112));
 }
 
+/* Setup bytes: 16 times the number of CPUs, 1 to 4, and 8 for pin-only; with 4 more, for wide tags, 1 to 16 CPUs, where 16 is written as 0. */
+static void setups(void)
+{
+    TRY(OK, "", hubcrackle_run(0x04, zeros, 0, out, 0));
+    TRY(OK, "", hubcrackle_run(0x14, zeros, 0, out, 0));
+    TRY(OK, "", hubcrackle_run(0x44, zeros, 0, out, 0));
+    TRY(OK, "", hubcrackle_run(0x54, zeros, 0, out, 0));
+    TRY(OK, "", hubcrackle_run(0xf4, zeros, 0, out, 0));
+    TRY(OK, "", hubcrackle_run(0x0c, zeros, 0, out, 0));
+    TRY(OK, "", hubcrackle_run(0x48, zeros, 0, out, 0));
+    TRY(EINVAL, "", hubcrackle_run(0x00, zeros, 0, out, 0));
+    TRY(EINVAL, "", hubcrackle_run(0x08, zeros, 0, out, 0));
+    TRY(EINVAL, "", hubcrackle_run(0x50, zeros, 0, out, 0));
+    TRY(EINVAL, "", hubcrackle_run(0xf0, zeros, 0, out, 0));
+    TRY(EINVAL, "", hubcrackle_run(0x41, zeros, 0, out, 0));
+    TRY(EINVAL, "", hubcrackle_run(0x42, zeros, 0, out, 0));
+    TRY(EINVAL, "", hubcrackle_run(0x05, zeros, 0, out, 0));
+    TRY(EINVAL, "", hubcrackle_run(0x06, zeros, 0, out, 0));
+}
+
+/* Logs on a machine with wide tags: thread t has thread word 16 (t + 1). */
+static void wide_logs(void)
+{
+    /* CPU 15 of sixteen: thread 3 acquires lock 7 there, whose word is then 16 * 4 + 15, and cannot be taken before it is unwound. */
+    static const head last_cpu[] = { { 0x0f }, { 0x2f, 3 }, { 0x4f, 0, 7 }, { 0xb0, 0, 7 }, { 0x3f, 3 }, { 0xcf, 3 }, { 0x3f, 3 } };
+    /* CPUs 0, 4 and 12, which a tag of two bits does not tell apart, hold a lock each. The unwind of one leaves the others' locks. The last
+     * asks for a pin to CPU 15. */
+    static const head apart[] = { { 0x00 }, { 0x04 }, { 0x0c }, { 0x20 }, { 0x24, 1 }, { 0x2c, 2 }, { 0x40 }, { 0x44, 0, 1 }, { 0x4c, 0, 2 },
+                                  { 0xc4, 1 }, { 0xb0 }, { 0xb0, 0, 1 }, { 0xb0, 0, 2 }, { 0x8f, 5 } };
+    uint8_t log[14 * HUBCRACKLE_RECORD_BYTES];
+    size_t log_len;
+
+    log_len = spread(log, last_cpu, 7);
+    TRY(OK,
+        "0000000000000000"
+        "0000000000000000"
+        "0000000000000001"
+        "000000000000004f"
+        "fffffff000000000"
+        "0000000000000001"
+        "0000000000000000",
+        hubcrackle_run(0x04, log, log_len, out, 56));
+    /* With fifteen CPUs there is no CPU 15, nor with four. */
+    TRY(OK, "ffffffea00000000", hubcrackle_run(0xf4, log, 12, out, 8));
+    TRY(OK, "ffffffea00000000", hubcrackle_run(0x40, log, 12, out, 8));
+
+    log_len = spread(log, apart, 14);
+    TRY(OK,
+        "0000000000000000"
+        "0000000000000000"
+        "0000000000000000"
+        "0000000000000000"
+        "0000000000000000"
+        "0000000000000000"
+        "0000000000000001"
+        "0000000000000001"
+        "0000000000000001"
+        "0000000000000001"
+        "0000000000000010"
+        "0000000000000000"
+        "000000000000003c"
+        "0000000000008000",
+        hubcrackle_run(0x04, log, log_len, out, 112));
+}
+
 /* The longest log: the first record is accepted, and the other 2047 are EALREADY. */
 static void longest_log(void)
 {
@@ -362,11 +481,14 @@ static void longest_log(void)
 int main(void)
 {
     owner_words();
+    wide_owner_words();
     masks();
     interrupts();
     logs();
     acquires();
     unwinds();
+    setups();
+    wide_logs();
     longest_log();
     printf("%d calls, %d wrong\n", calls, wrong);
     return wrong != 0;

@@ -99,12 +99,10 @@ fn held_ok(setup: Setup, cpus: [Cpu; CPU_SLOTS], k: Lock, t: ThreadId) -> bool
     if !state.irq_saved {
         return false;
     }
-    let tags = setup.tags();
-    let tag = k.word % tags;
-    if k.word != tags * (t.0 as u64 + 1) + tag {
+    let named = setup.cpu_of(k.word);
+    if k.word != setup.thread_word(t) + named.0 as u64 {
         return false;
     }
-    let named = CpuId(tag as u32);
     if named.0 < setup.n {
         runs(cpus, named, t)
     } else {
@@ -135,11 +133,8 @@ pub fn depth_for(setup: Setup, k: Lock, c: CpuId) -> u32
         return 0;
     }
     let state = k.state;
-    if k.word % setup.tags() == c.0 as u64 {
-        state.nest_count
-    } else {
-        0
-    }
+    let named = setup.cpu_of(k.word);
+    if named.0 == c.0 { state.nest_count } else { 0 }
 }
 
 // A current thread is below 32 and its CPU is active, carries its priority, is its place, and is allowed by its mask.

@@ -5,16 +5,8 @@ use lib.IntN.{ℤ}
 use lib.ListN.{replicate}
 use Rattle.error.specs.Codes.{OK}
 use Rattle.error.specs.Answer.{Answer, answer}
-use Rattle.spinlock_validate.specs.Owner.{
-  Holder,
-  nobody,
-  heldBy,
-  tagBits,
-  spinLockComputeOwner,
-  spinLockDecodeOwner,
-  spinLockValid,
-  spinUnlockValid,
-}
+use Rattle.spinlock_validate.specs.Owner.{Holder, nobody, heldBy}
+use Rattle.owner_flags.specs.Flags as Flags
 use Rattle.cpu_mask.specs.Mask.{validatePinMask, cpuPinCompute}
 use Rattle.mask_flags.specs.Flags.{maskOfFlags}
 use Rattle.ipi.specs.Ipi.{validateIpiMask}
@@ -22,8 +14,8 @@ use Rattle.lent_room.specs.Room.{wordBytes, maskBytes, yesNoBytes, holderBytes,
 use Rattle.cpu_bytes.specs.Cpus.{ipiMaskOfBytes}
 
 -- The word that a thread on a CPU makes: 8 bytes.
-abbrev pub computeOwner : ℕ → ℕ → Answer (List ℕ)
-computeOwner cpu thread = asBytes wordBytes (spinLockComputeOwner tagBits cpu thread)
+abbrev pub computeOwner : ℕ → ℕ → ℕ → Answer (List ℕ)
+computeOwner cpu thread wide = asBytes wordBytes (Flags.computeOwner cpu thread wide)
 
 -- A decoding as bytes: thread 8 then CPU 1, zeros if free.
 abbrev pub decodedBytes : Holder → List ℕ
@@ -31,16 +23,16 @@ decodedBytes nobody = replicate 9 0
 decodedBytes (heldBy thread cpu) = holderBytes thread cpu
 
 -- The decoding of a word.
-abbrev pub decodeOwner : ℕ → Answer (List ℕ)
-decodeOwner word = asBytes decodedBytes (spinLockDecodeOwner tagBits word)
+abbrev pub decodeOwner : ℕ → ℕ → Answer (List ℕ)
+decodeOwner word wide = asBytes decodedBytes (Flags.decodeOwner word wide)
 
 -- spin_lock_valid: yes or no, 1 byte.
-abbrev pub lockValid : ℕ → ℕ → Answer (List ℕ)
-lockValid word cpu = asBytes yesNoBytes (spinLockValid tagBits word cpu)
+abbrev pub lockValid : ℕ → ℕ → ℕ → Answer (List ℕ)
+lockValid word cpu wide = asBytes yesNoBytes (Flags.lockValid word cpu wide)
 
 -- spin_unlock_valid: yes or no.
-abbrev pub unlockValid : ℕ → ℕ → ℕ → Answer (List ℕ)
-unlockValid word cpu thread = asBytes yesNoBytes (spinUnlockValid tagBits word cpu thread)
+abbrev pub unlockValid : ℕ → ℕ → ℕ → ℕ → Answer (List ℕ)
+unlockValid word cpu thread wide = asBytes yesNoBytes (Flags.unlockValid word cpu thread wide)
 
 -- The new mask: 4 bytes.
 abbrev pub maskMod : ℕ → ℕ → ℕ → ℕ → ℕ → Answer (List ℕ)

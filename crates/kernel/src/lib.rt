@@ -2,7 +2,7 @@
 //
 // New here. Document 01, "What must change shape": the owner-word, mask, pin and interrupt rules and the runner, as exported functions. Each
 // returns its code, and on OK its value stands over the front of `out`, high byte first. A caller can rely on these: ENOMEM is tested last, a
-// refusal changes no lent byte, and bytes past the value stay.
+// refusal changes no lent byte, and bytes past the value stay. Document 02, request 4: `wide` is 0 for a tag of two bits and 1 for one of four.
 ghost use mathlib.Core.Path.{_≡_};
 ghost use lib.ListN.{length};
 ghost use Rattle.lent_room.specs.Room.{callCode, callRoom};
@@ -30,23 +30,28 @@ use spinlock_validate::Decoded;
 pub extern "C" fn hubcrackle_spin_lock_compute_owner(
     current_cpu_id: u32,
     current_thread: u64,
+    wide: u32,
     out: &mut [u8],
 ) -> i32
-    ensures code { λ r. ⌜ r ≡ callCode (computeOwner «current_cpu_id» «current_thread») (length (now (out .entry))) ⌝ }
-    ensures room { λ _. ⌜ now (out .exit) ≡ callRoom (computeOwner «current_cpu_id» «current_thread») (now (out .entry)) ⌝ }
+    ensures code { λ r. ⌜ r ≡ callCode (computeOwner «current_cpu_id» «current_thread» wide) (length (now (out .entry))) ⌝ }
+    ensures room { λ _. ⌜ now (out .exit) ≡ callRoom (computeOwner «current_cpu_id» «current_thread» wide) (now (out .entry)) ⌝ }
 {
-    let owner = spinlock_validate::spin_lock_compute_owner(current_cpu_id, current_thread);
+    let owner = owner_flags::compute_owner(current_cpu_id, current_thread, wide);
     let code = owner.code;
     lent_room::put_word(out, code, owner.word)
 }
 
 // The thread and the CPU in an owner word: 8 bytes and 1, all zero for a free lock.
 #[no_mangle]
-pub extern "C" fn hubcrackle_spin_lock_decode_owner(thread_cpu: u64, out: &mut [u8]) -> i32
-    ensures code { λ r. ⌜ r ≡ callCode (decodeOwner «thread_cpu») (length (now (out .entry))) ⌝ }
-    ensures room { λ _. ⌜ now (out .exit) ≡ callRoom (decodeOwner «thread_cpu») (now (out .entry)) ⌝ }
+pub extern "C" fn hubcrackle_spin_lock_decode_owner(
+    thread_cpu: u64,
+    wide: u32,
+    out: &mut [u8],
+) -> i32
+    ensures code { λ r. ⌜ r ≡ callCode (decodeOwner «thread_cpu» wide) (length (now (out .entry))) ⌝ }
+    ensures room { λ _. ⌜ now (out .exit) ≡ callRoom (decodeOwner «thread_cpu» wide) (now (out .entry)) ⌝ }
 {
-    match spinlock_validate::spin_lock_decode_owner(thread_cpu) {
+    match owner_flags::decode_owner(thread_cpu, wide) {
         Decoded::Free => lent_room::put_holder(out, Code::Ok, 0, 0),
         Decoded::Held { thread, cpu } => lent_room::put_holder(out, Code::Ok, thread, cpu),
         Decoded::BadWord => lent_room::put_holder(out, Code::Einval, 0, 0),
@@ -58,12 +63,13 @@ pub extern "C" fn hubcrackle_spin_lock_decode_owner(thread_cpu: u64, out: &mut [
 pub extern "C" fn hubcrackle_spin_lock_valid(
     thread_cpu: u64,
     current_cpu_id: u32,
+    wide: u32,
     out: &mut [u8],
 ) -> i32
-    ensures code { λ r. ⌜ r ≡ callCode (lockValid «thread_cpu» «current_cpu_id») (length (now (out .entry))) ⌝ }
-    ensures room { λ _. ⌜ now (out .exit) ≡ callRoom (lockValid «thread_cpu» «current_cpu_id») (now (out .entry)) ⌝ }
+    ensures code { λ r. ⌜ r ≡ callCode (lockValid «thread_cpu» «current_cpu_id» wide) (length (now (out .entry))) ⌝ }
+    ensures room { λ _. ⌜ now (out .exit) ≡ callRoom (lockValid «thread_cpu» «current_cpu_id» wide) (now (out .entry)) ⌝ }
 {
-    let lock = spinlock_validate::spin_lock_valid(thread_cpu, current_cpu_id);
+    let lock = owner_flags::lock_valid(thread_cpu, current_cpu_id, wide);
     let code = lock.code;
     lent_room::put_yes_no(out, code, lock.yes)
 }
@@ -74,12 +80,13 @@ pub extern "C" fn hubcrackle_spin_unlock_valid(
     thread_cpu: u64,
     current_cpu_id: u32,
     current_thread: u64,
+    wide: u32,
     out: &mut [u8],
 ) -> i32
-    ensures code { λ r. ⌜ r ≡ callCode (unlockValid «thread_cpu» «current_cpu_id» «current_thread») (length (now (out .entry))) ⌝ }
-    ensures room { λ _. ⌜ now (out .exit) ≡ callRoom (unlockValid «thread_cpu» «current_cpu_id» «current_thread») (now (out .entry)) ⌝ }
+    ensures code { λ r. ⌜ r ≡ callCode (unlockValid «thread_cpu» «current_cpu_id» «current_thread» wide) (length (now (out .entry))) ⌝ }
+    ensures room { λ _. ⌜ now (out .exit) ≡ callRoom (unlockValid «thread_cpu» «current_cpu_id» «current_thread» wide) (now (out .entry)) ⌝ }
 {
-    let unlock = spinlock_validate::spin_unlock_valid(thread_cpu, current_cpu_id, current_thread);
+    let unlock = owner_flags::unlock_valid(thread_cpu, current_cpu_id, current_thread, wide);
     let code = unlock.code;
     lent_room::put_yes_no(out, code, unlock.yes)
 }

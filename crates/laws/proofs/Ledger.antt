@@ -9,10 +9,10 @@
 use mathlib.Core.Path.{_≡_}
 use mathlib.Core.Bool.{true}
 use mathlib.Core.List.{List}
-use Prim.Native.Nat.{ℕ, _+_, _/_, _≤_}
+use Prim.Native.Nat.{ℕ, _+_, _/_, _^_, _≤_}
 use lib.ListN.{length}
 use Rattle.error.specs.Codes.{isOK}
-use Rattle.machine.specs.State.{cpuSlots}
+use Rattle.machine.specs.State.{tagBits}
 use Rattle.machine.specs.declared.Setup.{Setup}
 use Rattle.wellformed.specs.WellFormed.{wellFormed}
 use Rattle.operations.specs.Log.{stateAt}
@@ -20,7 +20,7 @@ use Rattle.runner.specs.Run.{ran, ranRoom}
 use Rattle.ledger.specs.Ledger.{Book, acquires, releases, balance, InBooks, freshOf}
 use Rattle.ledger.proofs.Fresh as Fresh
 
-module _ (s : Setup) (some : 1 ≤ s .n) (few : s .n ≤ cpuSlots) (log : List ℕ) (k : ℕ) where
+module _ (s : Setup) (some : 1 ≤ s .n) (few : s .n ≤ 2 ^ tagBits s) (log : List ℕ) (k : ℕ) where
   -- A book is a lock's or a CPU's; its balance is the lock's depth, or the CPU's hold.
   pub ledger : (room : List ℕ) → isOK (ran (freshOf s) log (length room) .code) ≡ true → k ≤ length log / 12
       → (book : Book) → InBooks book

@@ -1,4 +1,5 @@
 pub mod Marked
+pub mod OwnerWords
 pub mod Refusals
 pub mod AnotherOrder
 pub mod AnotherOrderBytes

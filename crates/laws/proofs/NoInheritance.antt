@@ -30,7 +30,7 @@ module _ (m : Machine) (formed : wellFormed m ≡ true) where
   pub idle-cpu : (c : ℕ) → c < cpuSlots → cpuAt m c .run .current ≡ Current.None → HoldsNothing m c
   idle-cpu = Job.no-current m (says m formed)
 
-  -- `Lengths`: 4 CPUs, 32 threads and 128 locks, as every machine value has them. (Neither request uses a lock: its number z is any.)
+  -- `Lengths`: 16 CPU slots, 32 threads and 128 locks, as every machine value has them. (Neither request uses a lock: its number z is any.)
   module _ (size : Lengths m) (bytes : List ℕ) (c : CpuId) (t : ThreadId) where
     pub after-take : {z : ℕ} → Accepted m bytes (request (Operation.OnCpu CpuOperation.Take) (c .0) (t .0) z)
         → OwnsNothing (next m bytes) (t .0) × HoldsNothing (next m bytes) (c .0)

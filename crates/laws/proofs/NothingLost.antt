@@ -18,7 +18,7 @@ use Rattle.operations.proofs.Lengths.{Lengths}
 use Rattle.job.specs.Job.{Accepted, Gives}
 use Rattle.job.proofs.Undone as Job
 
--- `Gives m c l x`: on machine x a release of l by c is accepted and gives m. `Lengths`: 4 CPUs, 32 threads and 128 locks. (An acquire
+-- `Gives m c l x`: on machine x a release of l by c is accepted and gives m. `Lengths`: 16 CPU slots, 32 threads and 128 locks. (An acquire
 -- uses no thread: its number z is any.)
 pub nothing-lost : (m : Machine) → Lengths m → wellFormed m ≡ true → (bytes : List ℕ) (c : CpuId) (l : LockId) {nested : Bool} {z : ℕ}
     → Accepted m bytes (request (Operation.OnLock (LockOperation.Acquire nested)) (c .0) z (l .0)) → Gives m c l (next m bytes)

@@ -26,7 +26,7 @@ use Rattle.job.specs.Stopped.{Unwinds}
 use Rattle.job.proofs.Stopped as Job
 use Rattle.job.proofs.NoInheritance as Inheritance
 
--- `Lengths`: 4 CPUs, 32 threads and 128 locks, as every machine value has them. (No request here uses a lock: its number is any.)
+-- `Lengths`: 16 CPU slots, 32 threads and 128 locks, as every machine value has them. (No request here uses a lock: its number is any.)
 module _ (m : Machine) (formed : wellFormed m ≡ true) (size : Lengths m) (c : CpuId) (t : ThreadId)
     (runs : cpuAt m (c .0) .run .current ≡ Current.Thread t) (unwind : List ℕ) {x : ℕ}
     (asks : requestOf (m .setup) unwind ≡ request Operation.Unwind (c .0) (t .0) x) where

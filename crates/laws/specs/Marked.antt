@@ -1,6 +1,6 @@
 -- 01, "Marked examples": one table, one claim. Each row is an example's number, what a rule gives, and what 01 says that it gives; the claim
--- is that the two are equal in every row. It is closed by computing
--- (proofs/Marked.antt).
+-- is that the two are equal in every row. It is closed by computing (proofs/Marked.antt). A second table, ours, goes on with the wide machine of
+-- 02, request 4.
 use mathlib.Core.Path.{_≡_}
 use mathlib.Core.Bool.{Bool, true, false}
 use mathlib.Core.List.{List, [], _∷_, _++_}
@@ -9,14 +9,15 @@ use lib.IntN.{pos}
 use lib.ListN.{replicate}
 use Rattle.error.specs.Codes.{OK, EBUSY, EINVAL}
 use Rattle.error.specs.Answer.{answer}
-use Rattle.spinlock_validate.specs.Owner.{tagBits, nobody, heldBy, spinLockComputeOwner, spinLockDecodeOwner, spinLockValid}
+use Rattle.spinlock_validate.specs.Owner.{tagBits, wideTagBits, nobody, heldBy, spinLockComputeOwner, spinLockDecodeOwner, spinLockValid}
 use Rattle.spinlock.specs.Lock.{acquire}
 use Rattle.spinlock.specs.declared.Owner.the-variants.{Thread}
 use Rattle.spinlock.specs.declared.SpinlockState.{SpinlockState}
 use Rattle.cpu_mask.specs.Mask.{cpuMaskMod, cpuPinCompute}
 use Rattle.ipi.specs.Ipi.{computeIpiMask}
 use Rattle.ipi.specs.declared.CpuRecord.{CpuRecord}
-use Rattle.machine.specs.State.{setup, cpuAt, lockAt}
+use Rattle.machine.specs.State.{setup, notMade, cpuAt, lockAt}
+use Rattle.machine.specs.declared.Setup.{Setup}
 use Rattle.machine.specs.declared.Machine.{Machine}
 use Rattle.operations.specs.Log.{stateAt}
 use Rattle.program.specs.Program.{respondRoom}
@@ -97,4 +98,42 @@ table =
     ∷ M 11 (respondRoom (0x20 ∷ workedLog) (replicate 56 0)) workedAnswers
     ∷ M 11 (lockAt workedEnd 7) (record { state = record { owner = Thread 3; «nest_count» = 1; «irq_saved» = true }; word = 16 })
     ∷ M 11 (cpuAt workedEnd 0 .hold) 1
+    ∷ []
+
+-- The worked log on CPU 15 of a wide machine of sixteen: setup 04.
+unfoldable pub wideLog : List ℕ
+wideLog =
+    opened 0x0f 0 0 ++ (opened 0x2f 3 0 ++ (opened 0x4f 0 7 ++ (flagged 0x4f 0 7 ++ (opened 0x3f 3 0 ++ (opened 0xb0 0 7 ++ opened 0x6f 0 7)))))
+
+-- Its answers are those of the worked log, but for the owner word: 16 times 4, with CPU 15.
+unfoldable pub wideAnswers : List ℕ
+wideAnswers = zeros 0 ++ (zeros 0 ++ (zeros 1 ++ (zeros 2 ++ (busy ++ (zeros 79 ++ zeros 1)))))
+
+-- The machine after it.
+unfoldable pub wideEnd : Machine
+wideEnd = stateAt (setup 0x04 .value) wideLog 7
+
+-- The setup of a wide machine of n CPUs.
+unfoldable pub wideOf : ℕ → Setup
+wideOf n = record { n = n; «pin_only» = false; wide = true }
+
+-- The examples of the wide machine.
+unfoldable pub wideTable : List Row
+wideTable =
+    M 12 (spinLockComputeOwner wideTagBits 15 16) (answer OK 31)
+    ∷ M 12 (spinLockDecodeOwner wideTagBits 31) (answer OK (heldBy 16 15))
+    ∷ M 12 (spinLockComputeOwner wideTagBits 16 16) (answer EINVAL 0)
+    ∷ M 13 (spinLockDecodeOwner wideTagBits 15) (answer EINVAL nobody)
+    ∷ M 13 (spinLockDecodeOwner wideTagBits 16) (answer OK (heldBy 16 0))
+    ∷ M 13 (spinLockComputeOwner wideTagBits 3 8) (answer EINVAL 0)
+    ∷ M 14 (setup 0x04 .code) OK
+    ∷ M 14 (setup 0x04 .value .setup) (wideOf 16)
+    ∷ M 14 (setup 0x14 .code) OK
+    ∷ M 14 (setup 0x14 .value .setup) (wideOf 1)
+    ∷ M 14 (setup 0xf4 .code) OK
+    ∷ M 14 (setup 0xf4 .value .setup) (wideOf 15)
+    ∷ M 14 (setup 0xf0) notMade
+    ∷ M 15 (respondRoom (0x04 ∷ wideLog) (replicate 56 0)) wideAnswers
+    ∷ M 15 (lockAt wideEnd 7) (record { state = record { owner = Thread 3; «nest_count» = 1; «irq_saved» = true }; word = 79 })
+    ∷ M 15 (cpuAt wideEnd 15 .hold) 1
     ∷ []

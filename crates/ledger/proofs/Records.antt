@@ -1,6 +1,6 @@
 -- Each record keeps the books: an accepted acquire or release moves its lock's depth and its CPU's hold by one, an unwind closes books
 -- (Unwinds), and everything else leaves them. By the operation's family. Assumes nothing.
-use mathlib.Core.Path.{_≡_, refl, ap, sym, _∙_}
+use mathlib.Core.Path.{_≡_, refl, ap, ap₂, sym, _∙_}
 use mathlib.Core.Logic.{_≢_}
 use mathlib.Core.Bool.{Bool, true, false}
 use mathlib.Core.List.{List, [], _∷_}
@@ -31,6 +31,7 @@ use Rattle.operations.specs.Cells.{Cell, run, hold, thread, lock, machineStore}
 use Rattle.operations.specs.Operations.{withHold, onCpu, onLock, onThread, operationBy}
 use Rattle.operations.specs.Asked.{answered, next}
 use Rattle.operations.proofs.Lengths.{Lengths}
+use Rattle.operations.proofs.Setups.{after-setup}
 use Rattle.kept.proofs.Ranges.{asks-in-range}
 use Rattle.kept.proofs.Stored.{cpu-there, cpu-elsewhere, lock-there, lock-elsewhere}
 use Rattle.rearranged.proofs.MachineStore.{Shape, shape, machine-laws}
@@ -74,7 +75,8 @@ stays m o (ofLock l) out stand is =
     let same : lockAt (doing m o) l ≡ lockAt m l = after-other machineStore (Answer ℕ) Shape shape machine-laws (lock l) o m out in
     record {
       total = ap (λ (x : Lock). x .state .«nest_count» + stand .releases) same ∙ is .total;
-      last = λ deep. is .last (rw same at deep) ∙ ap (λ (x : Lock). from (cpuOf (tagBits (m .setup)) (x .word))) (sym same);
+      last = λ deep. is .last (rw same at deep)
+          ∙ ap₂ (λ (k : Setup) (x : Lock). from (cpuOf (tagBits k) (x .word))) (sym (after-setup m o)) (sym same);
     }
 stays m o (ofCpu c) out stand is =
     let same : cpuAt (doing m o) c .hold ≡ cpuAt m c .hold = after-other machineStore (Answer ℕ) Shape shape machine-laws (hold c) o m out in

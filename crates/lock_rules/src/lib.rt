@@ -1,10 +1,12 @@
 // The operations of a log on a lock: acquire, release, and a look at its owner word. Each is a small function from the values of the cells that
 // it names to their new values and an answer. A rule never sees the machine, so it reads and writes nothing else.
 //
-// New here; the definitions are in the crate rules, the lock's rule goes by the crate spinlock, the owner word by spinlock_validate. A refusal
-// hands every cell back as it was.
+// New here; the definitions are in the crate rules, the lock's rule goes by the crate spinlock, the owner word by the definitions of
+// spinlock_validate. A refusal hands every cell back as it was.
 ghost use mathlib.Core.Path.{_≡_};
+ghost use mathlib.Core.Bool.{true};
 ghost use Prim.Native.Nat.{_-_};
+ghost use Rattle.words.specs.Tag.{wordOf};
 ghost use Rattle.error.specs.Codes.{EINVAL};
 ghost use Rattle.error.specs.Answer.{answer};
 ghost use Rattle.spinlock.specs.Lock.{changedSays, held};
@@ -46,23 +48,24 @@ fn has_owner(owner: Owner) -> bool
     }
 }
 
-// The thread word of a thread: the address that stands for it in owner words.
-fn thread_word(setup: Setup, t: ThreadId) -> u64
-    ensures { λ r. ⌜ r ≡ threadWord setup (t .0) ⌝ }
+// The owner word of a thread on a CPU of the machine. Such a pair makes a word at every width, so none of the owner word's tests is made again.
+fn owner_word(setup: Setup, c: CpuId, t: ThreadId) -> u64
+    ensures { λ r. ⌜ r ≡ wordOf (c .0) (threadWord setup (t .0)) ⌝ }
 {
-    setup.tags() * (t.0 as u64 + 1)
+    setup.thread_word(t) + c.0 as u64
 }
 
 // Whether the lock's word is another than this thread's on this CPU, so that the thread is not the owner here.
 fn elsewhere(setup: Setup, c: CpuId, t: ThreadId, lock: Lock) -> bool
+    requires { ⌜ hasCpu setup (c .0) ≡ true ⌝ }
     ensures { λ r. ⌜ r ≡ Rules·elsewhere setup (c .0) (t .0) lock ⌝ }
 {
-    let valid = spinlock_validate::spin_unlock_valid(lock.word, c.0, thread_word(setup, t));
-    !valid.yes
+    lock.word != owner_word(setup, c, t)
 }
 
 // The lock's rule for a thread on a CPU.
 fn ruled(setup: Setup, operation: Operation, c: CpuId, t: ThreadId, lock: Lock) -> Changed
+    requires { ⌜ hasCpu setup (c .0) ≡ true ⌝ }
     ensures { λ r. ⌜ changedSays r ≡ Rules·ruled setup operation (c .0) (t .0) lock ⌝ }
 {
     let state = lock.state;
@@ -71,6 +74,7 @@ fn ruled(setup: Setup, operation: Operation, c: CpuId, t: ThreadId, lock: Lock) 
 
 // The word of a lock after an accepted operation that left this record.
 fn word_after(setup: Setup, c: CpuId, t: ThreadId, lock: Lock, next: SpinlockState) -> u64
+    requires { ⌜ hasCpu setup (c .0) ≡ true ⌝ }
     ensures { λ r. ⌜ r ≡ wordAfter setup (c .0) (t .0) lock next ⌝ }
 {
     let owner = next.owner;
@@ -82,8 +86,7 @@ fn word_after(setup: Setup, c: CpuId, t: ThreadId, lock: Lock, next: SpinlockSta
     if has_owner(before) {
         return lock.word;
     }
-    let made = spinlock_validate::spin_lock_compute_owner(c.0, thread_word(setup, t));
-    made.word
+    owner_word(setup, c, t)
 }
 
 // A hold after an accepted operation.
@@ -117,6 +120,7 @@ fn settled(
     cpu: Cpu,
     lock: Lock,
 ) -> LockOut
+    requires { ⌜ hasCpu setup (c .0) ≡ true ⌝ }
     ensures { λ r. ⌜ lockSays r ≡ withLock operation cpu lock (lockSettled setup (c .0) (t .0) lock (Rules·ruled setup operation (c .0) (t .0) lock)) ⌝ }
 {
     let a = ruled(setup, operation, c, t, lock);

@@ -1,3 +1,4 @@
 pub mod OneResult
+pub mod Size
 pub mod CurrentThread
 pub mod Priority

@@ -1,4 +1,4 @@
--- 01, "The machine": n CPUs, 32 threads, and 128 locks, all free at the start, in one record.
+-- 01, "The machine", and 02, request 4: n CPUs, 32 threads, and 128 locks, all free at the start, in one record.
 use Prim.Native.Nat.{ℕ, _+_, _*_, _/_, _%_, _^_}
 use mathlib.Core.Bool.{Bool, true, false, _&&_, not, cond}
 use lib.Dec.{eqb, leb, ltb}
@@ -9,6 +9,8 @@ use lib.ListN.{getD, replicate}
 use Rattle.error.specs.Codes.{OK, EINVAL, numberOf}
 use Rattle.error.specs.Answer.{Answer, answer}
 use Rattle.words.specs.Tag.{cpuOf}
+use Rattle.spinlock_validate.specs.Owner.{widthBits, widthBy}
+use Rattle.spinlock_validate.specs.declared.Width.{Width}
 use Rattle.spinlock.specs.Lock.{freeRecord}
 use Rattle.machine.specs.declared.Current.{Current}
 use Rattle.machine.specs.declared.Place.the-variants.{Nowhere}
@@ -26,7 +28,7 @@ madeSays a = answer (numberOf (a .code)) (a .machine)
 
 -- How many CPU slots, threads and locks there are.
 abbrev pub cpuSlots : ℕ
-cpuSlots = 4
+cpuSlots = 16
 
 abbrev pub threadCount : ℕ
 threadCount = 32
@@ -34,9 +36,17 @@ threadCount = 32
 abbrev pub lockCount : ℕ
 lockCount = 128
 
--- n is 1 to 4.
+-- The width of a setup's tags.
+abbrev pub widthOf : Setup → Width
+widthOf k = widthBy (k .wide)
+
+-- How many bits of an owner word are the CPU's number: 4 if wide, else 2.
+abbrev pub tagBits : Setup → ℕ
+tagBits k = widthBits (widthOf k)
+
+-- n is 1 to 16 if wide, else 1 to 4: as many as a tag tells apart.
 abbrev pub setupOk : Setup → Bool
-setupOk k = leb 1 (k .n) && leb (k .n) cpuSlots
+setupOk k = leb 1 (k .n) && leb (k .n) (2 ^ tagBits k)
 
 -- A machine of this setup has CPU c.
 abbrev pub hasCpu : Setup → ℕ → Bool
@@ -50,11 +60,7 @@ isThread t = ltb t threadCount
 unfoldable pub isPriority : ℤ → Bool
 isPriority p = leZ (negℤ (pos 128)) p && leZ p (pos 127)
 
--- How many bits of an owner word are the CPU's number.
-abbrev pub tagBits : Setup → ℕ
-tagBits k = 2
-
--- Thread t has thread word 4(t+1).
+-- Thread t has thread word 16(t+1) if wide, else 4(t+1).
 abbrev pub threadWord : Setup → ℕ → ℕ
 threadWord k t = 2 ^ tagBits k * (t + 1)
 
@@ -101,21 +107,26 @@ freshMachine k threads =
 
 -- A refused call that would make a machine gives the fresh one of n 1, all flags off.
 abbrev pub leastSetup : Setup
-leastSetup = record { n = 1; «pin_only» = false }
+leastSetup = record { n = 1; «pin_only» = false; wide = false }
 
 unfoldable pub notMade : Answer Machine
 notMade = answer EINVAL (freshMachine leastSetup (freshThreads leastSetup))
 
--- n is 1 to 4, else EINVAL.
+-- n is 1 to 4, to 16 if wide, else EINVAL.
 unfoldable pub fresh : Setup → Answer Machine
 fresh k = cond (setupOk k) (answer OK (freshMachine k (freshThreads k))) notMade
 
--- A setup byte: n 4 bits, pin-only 1, zero 3.
+-- Of a wide machine the CPU field 0 means 16.
+abbrev pub cpuField : Bool → ℕ → ℕ
+cpuField wide field = cond (wide && eqb field 0) cpuSlots field
+
+-- A setup byte: n 4 bits, pin-only 1, wide 1, zero 2.
 abbrev pub setupOf : ℕ → Setup
-setupOf byte = record { n = byte / 16; «pin_only» = eqb (byte / 8 % 2) 1 }
+setupOf byte =
+    record { n = cpuField (eqb (byte / 4 % 2) 1) (byte / 16); «pin_only» = eqb (byte / 8 % 2) 1; wide = eqb (byte / 4 % 2) 1 }
 
 unfoldable pub setup : ℕ → Answer Machine
-setup byte = cond (eqb (byte % 8) 0) (fresh (setupOf byte)) notMade
+setup byte = cond (eqb (byte % 4) 0) (fresh (setupOf byte)) notMade
 
 -- What stands past the end of an array: all zero.
 abbrev pub noCpu : Cpu

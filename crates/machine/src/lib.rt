@@ -1,15 +1,19 @@
 // The machine: n CPUs, 32 threads and 128 locks in one record, by value, with the cells that the operations of a log read and write.
 //
 // New here: upstream has the single rules and no machine. CPU, thread and lock numbers are kinds of their own, so that a lock's number
-// cannot index a CPU or a thread. What is fixed at start is one value, the setup; the width of an owner word's tag is a function of it.
+// cannot index a CPU or a thread. What is fixed at start is one value, the setup; the width of an owner word's tag is a function of it, and n is
+// at most what a tag of that width tells apart.
 ghost use mathlib.Core.Path.{_≡_};
-ghost use Prim.Native.Nat.{_^_};
+ghost use Rattle.words.specs.Tag.{cpuOf};
 ghost use Rattle.machine.specs.State.{
   setupOk,
   hasCpu,
   isThread,
   isPriority,
+  widthOf,
   tagBits,
+  threadWord,
+  cpuField as State·cpuField,
   threadMask,
   freshMachine,
   freshThreads,
@@ -21,16 +25,14 @@ ghost use Rattle.machine.specs.State.{
 use error::Code;
 use spinlock::Owner;
 use spinlock::SpinlockState;
+use spinlock_validate::Width;
 
 // How many CPU slots, threads and locks a machine has.
-pub const CPU_SLOTS: usize = 4;
+pub const CPU_SLOTS: usize = 16;
 
 pub const THREADS: usize = 32;
 
 pub const LOCKS: usize = 128;
-
-// How many CPUs the tag of an owner word tells apart.
-const TAG_CPUS: u64 = 4;
 
 // The priority of a CPU with no thread, and the least and the greatest of a thread.
 pub const IDLE_PRIORITY: i32 = 128;
@@ -61,18 +63,27 @@ pub fn is_priority(priority: i32) -> bool
     (LEAST_PRIORITY <= priority) & (priority <= GREATEST_PRIORITY)
 }
 
-// What is fixed at start: how many CPUs there are, and whether a mask has one bit only.
+// What is fixed at start: how many CPUs there are, whether a mask has one bit only, and whether owner words have wide tags.
 pub struct Setup {
     pub n: u32,
     pub pin_only: bool,
+    pub wide: bool,
 }
 
 impl Setup {
-    // Whether a machine can have this setup: n is 1 to 4.
+    // The width of the tags of owner words.
+    pub fn width(self) -> Width
+        ensures { λ r. ⌜ r ≡ widthOf self ⌝ }
+    {
+        spinlock_validate::width_by(self.wide)
+    }
+
+    // Whether a machine can have this setup: n is 1 to 4, and to 16 if it is wide.
     pub fn is_ok(self) -> bool
         ensures { λ r. ⌜ r ≡ setupOk self ⌝ }
     {
-        (1 <= self.n) & (self.n <= CPU_SLOTS as u32)
+        let width = self.width();
+        (1 <= self.n) & (self.n as u64 <= width.tags())
     }
 
     // Whether a machine of this setup has the CPU.
@@ -82,11 +93,20 @@ impl Setup {
         self.is_ok() & (c.0 < self.n)
     }
 
-    // How many CPUs its owner words tell apart.
-    pub fn tags(self) -> u64
-        ensures { λ r. ⌜ r ≡ 2 ^ tagBits self ⌝ }
+    // The thread word of a thread: the address that stands for it in owner words.
+    pub fn thread_word(self, t: ThreadId) -> u64
+        ensures { λ r. ⌜ r ≡ threadWord self (t .0) ⌝ }
     {
-        TAG_CPUS
+        let width = self.width();
+        width.tags() * (t.0 as u64 + 1)
+    }
+
+    // The CPU in an owner word.
+    pub fn cpu_of(self, word: u64) -> CpuId
+        ensures { λ r. ⌜ r .0 ≡ cpuOf (tagBits self) word ⌝ }
+    {
+        let width = self.width();
+        CpuId(width.cpu_of(word))
     }
 }
 
@@ -192,6 +212,7 @@ fn refused() -> Made
     let setup = Setup {
         n: 1,
         pin_only: false,
+        wide: false,
     };
     Made {
         code: Code::Einval,
@@ -212,16 +233,28 @@ pub fn fresh(setup: Setup) -> Made
     }
 }
 
-// The fresh machine that a setup byte asks for: n in the upper four bits, then pin-only, then three zero bits.
+// The number of CPUs that the CPU field of a setup byte stands for. Of a wide machine 0 stands for as many as there are slots.
+fn cpu_field(wide: bool, field: u32) -> u32
+    ensures { λ r. ⌜ r ≡ State·cpuField wide field ⌝ }
+{
+    if wide & (field == 0) {
+        return CPU_SLOTS as u32;
+    }
+    field
+}
+
+// The fresh machine that a setup byte asks for: n in the upper four bits, then pin-only, then wide, then two zero bits.
 pub fn from_setup_byte(byte: u8) -> Made
     ensures { λ r. ⌜ madeSays r ≡ State·setup byte ⌝ }
 {
-    if byte % 8 != 0 {
+    if byte % 4 != 0 {
         return refused();
     }
+    let wide = byte / 4 % 2 == 1;
     let setup = Setup {
-        n: (byte / 16) as u32,
+        n: cpu_field(wide, (byte / 16) as u32),
         pin_only: byte / 8 % 2 == 1,
+        wide,
     };
     fresh(setup)
 }

@@ -14,7 +14,7 @@ use Rattle.operations.specs.Cells.{Cell, run, hold, thread, lock, Val, p
 use Rattle.operations.specs.Asked.{asked, next}
 use Rattle.operations.specs.Log.{recordAt, stateAt}
 
--- 4 CPUs, 32 threads and 128 locks.
+-- 16 CPU slots, 32 threads and 128 locks.
 pub record Lengths (m : Machine) : Type 0 where
   pub cpus : length (m .cpus) ≡ cpuSlots
   pub threads : length (m .threads) ≡ threadCount

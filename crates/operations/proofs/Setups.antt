@@ -4,7 +4,7 @@ use mathlib.Core.List.{List, [], _∷_}
 use Prim.Native.Nat.{ℕ}
 use Rattle.error.specs.Answer.{Answer}
 use Rattle.order.specs.Outcome.{Outcome, refuse, accept}
-use Rattle.order.specs.Cells.{Vals, store, result, commit}
+use Rattle.order.specs.Cells.{Op, Vals, store, result, commit, after}
 use Rattle.machine.specs.declared.Machine.{Machine}
 use Rattle.operations.specs.Cells.{Cell, run, hold, thread, lock, Val, put, machineStore}
 use Rattle.operations.specs.Asked.{asked, next}
@@ -24,6 +24,10 @@ commit-setup : (cs : List Cell) (o : Outcome (Answer ℕ) (Vals machineStore cs)
 commit-setup cs (refuse a) m = refl
 commit-setup cs (accept a vs) m = store-setup cs vs m
 
+-- No operation changes the setup, and so no record does.
+pub after-setup : (m : Machine) (o : Op machineStore (Answer ℕ)) → after machineStore (Answer ℕ) m o .setup ≡ m .setup
+after-setup m o = commit-setup (o .writes) (result machineStore (Answer ℕ) o m) m
+
 pub next-setup : (m : Machine) (bytes : List ℕ) → next m bytes .setup ≡ m .setup
 unfolding next
-next-setup m bytes = commit-setup (asked m bytes .writes) (result machineStore (Answer ℕ) (asked m bytes) m) m
+next-setup m bytes = after-setup m (asked m bytes)

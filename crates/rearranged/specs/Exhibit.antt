@@ -1,14 +1,14 @@
 -- Two CPUs bring a thread each, on a machine of two CPUs: the records of the one, then those of the other; and interleaved.
-use mathlib.Core.Bool.{Bool}
+use mathlib.Core.Bool.{Bool, false}
 use mathlib.Core.List.{List, _∷_, [], _++_}
 use Prim.Native.Nat.{ℕ}
 use lib.ListN.{getD}
 use Rattle.machine.specs.declared.Setup.{Setup}
 use Rattle.record.specs.Record.{packed}
 
--- Two CPUs, with either pin-only setting.
+-- Two CPUs with narrow tags, with either pin-only setting.
 abbrev pub twoCpus : Bool → Setup
-twoCpus pinOnly = record { n = 2; «pin_only» = pinOnly }
+twoCpus pinOnly = record { n = 2; «pin_only» = pinOnly; wide = false }
 
 -- Up of CPU c, and put of a thread there.
 abbrev pub bringUp : ℕ → List ℕ

@@ -6,12 +6,13 @@ use mathlib.Core.List.{List}
 use Prim.Native.Nat.{ℕ, _<_}
 use native.Mathlib.Nat.{lt-of-lt-of-le}
 use native.Mathlib.Omega.{arith}
-use lib.Dec.{eqb, leb}
+use lib.Dec.{eqb}
 use lib.ListN.{length}
-use borrow.Author.Tests.{ltb-true, leb-true}
+use borrow.Author.Tests.{ltb-true}
 use Rattle.words.proofs.Choice.{bool-ind, and-left, and-right}
-use Rattle.machine.specs.State.{cpuSlots, threadCount, lockCount, setupOk, isPriority}
+use Rattle.machine.specs.State.{threadCount, lockCount, setupOk, isPriority}
 use Rattle.machine.specs.declared.Setup.{Setup}
+use Rattle.machine.proofs.Size.{size-says}
 use Rattle.record.specs.Record.{
   Row,
   noRow,
@@ -107,7 +108,7 @@ request-ranged k ok bs =
     })
   where
     some : 0 < k .n
-    some = leb-true 1 (k .n) (and-left (leb 1 (k .n)) _ ok)
+    some = size-says k ok .some
 
 -- So they are places in a machine's arrays, on whatever setup.
 pub request-in-arrays : (k : Setup) (bs : List ℕ) → InArrays (requestOf k bs)
@@ -116,10 +117,9 @@ request-in-arrays k bs =
     let f = fieldsOf bs in
     let r = rowOf (f .operation) in
     let fit = fit-says (k .n) r f e in
-    let some = leb-true 1 (k .n) (and-left (leb 1 (k .n)) _ ok) in
-    let few = leb-true (k .n) cpuSlots (and-right (leb 1 (k .n)) _ ok) in
+    let size = size-says k ok in
     record {
-      cpu = lt-of-lt-of-le (below (r .cpu) (k .n) (f .cpu) some (fit .cpu)) few;
+      cpu = lt-of-lt-of-le (below (r .cpu) (k .n) (f .cpu) (size .some) (fit .cpu)) (size .few);
       thread = below (r .thread) threadCount (f .thread) (omega arith) (fit .thread);
       lock = below (r .lock) lockCount (f .lock) (omega arith) (fit .lock);
     })

@@ -5,7 +5,7 @@ use mathlib.Core.Bool.{Bool, true, false, _||_, not, cond}
 use mathlib.Core.List.{List, [], _∷_, _++_, map}
 use lib.Dec.{eqb, ltb}
 use lib.IntN.{ℤ}
-use lib.ListN.{getD, replicate}
+use lib.ListN.{getD}
 use Rattle.error.specs.Codes.{OK, EPERM, EBUSY, EINVAL, EALREADY, numberOf, isOK}
 use Rattle.error.specs.Answer.{Answer, answer}
 use Rattle.words.specs.Bit.{bit, bitNot}
@@ -14,7 +14,7 @@ use Rattle.spinlock.specs.Lock.{operate, held}
 use Rattle.spinlock.specs.declared.SpinlockState.{SpinlockState}
 use Rattle.spinlock.specs.declared.Operation.{Operation}
 use Rattle.cpu_mask.specs.Mask.{maskBits, cpuMaskMod, cpuPinCompute}
-use Rattle.ipi.specs.Ipi.{maxIpiCpus, noCpu as Ipi·noCpu, computeIpiMask}
+use Rattle.ipi.specs.Ipi.{maxIpiCpus, computeIpiMask}
 use Rattle.ipi.specs.declared.CpuRecord.{CpuRecord}
 use Rattle.order.specs.Outcome.{Outcome, refuse, accept, answerOf, cellsAfter, appliedTo, accepted}
 use Rattle.machine.specs.State.{cpuSlots, isThread, isPriority, tagBits, threadWord, names, isCurrent, idleRun, freeLock, noCpu}
@@ -222,10 +222,6 @@ carriable (ThreadOperation.Priority a) = isPriority a
 abbrev pub cpuRecord : Run → CpuRecord
 cpuRecord run = record { active = run .active; priority = run .priority }
 
--- The records of these run cells, and of nobody past them.
-abbrev pub recordsOf : List Run → List CpuRecord
-recordsOf runs = map cpuRecord runs ++ replicate (maxIpiCpus - cpuSlots) Ipi·noCpu
-
 -- The run cells of the first k of these CPUs.
 abbrev pub runsOf : ℕ → List Cpu → List Run
 runsOf zero cpus = []
@@ -233,7 +229,7 @@ runsOf (suc k) cpus = runsOf k cpus ++ (getD cpus k noCpu .run ∷ [])
 
 -- 10 ipi: cpu as current, n CPUs, the thread's priority and mask. The value is the IPI mask.
 unfoldable pub ipi : Setup → ℕ → List Run → Thread → Answer ℕ
-ipi s c runs thread = computeIpiMask c (thread .priority) (thread .mask) (recordsOf runs) (s .n) maxIpiCpus
+ipi s c runs thread = computeIpiMask c (thread .priority) (thread .mask) (map cpuRecord runs) (s .n) maxIpiCpus
 
 -- That rule on the run cells of these CPUs.
 abbrev pub ipiOf : Setup → ℕ → List Cpu → Thread → Answer ℕ

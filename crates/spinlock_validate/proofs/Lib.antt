@@ -1,3 +1,4 @@
+pub mod Widths
 pub mod Laws
 pub mod Upstream
 pub mod OneResult

@@ -1,10 +1,12 @@
--- 01, "Owner word": which thread on which CPU holds a lock, in one word. The rules go by the width k of the tag; 4 CPUs take 2 bits.
+-- 01, "Owner word", and 02, request 4: which thread on which CPU holds a lock, in one word. The rules go by the width k of the tag; 4 CPUs take
+-- 2 bits, and 16 take 4.
 use Prim.Native.Nat.{ℕ, _^_}
 use mathlib.Core.Bool.{Bool, false, _&&_, not, cond}
 use lib.Dec.{eqb, ltb}
 use Rattle.error.specs.Codes.{OK, EINVAL, numberOf}
 use Rattle.error.specs.Answer.{Answer, answer}
 use Rattle.words.specs.Tag.{taggable, wordOf, cpuOf, threadOf}
+use Rattle.spinlock_validate.specs.declared.Width.{Width}
 use Rattle.spinlock_validate.specs.declared.OwnerWord.{OwnerWord}
 use Rattle.spinlock_validate.specs.declared.Decoded.{Decoded}
 use Rattle.spinlock_validate.specs.declared.Decoded.the-variants.{Free, Held, BadWord}
@@ -12,6 +14,19 @@ use Rattle.spinlock_validate.specs.declared.Decoded.the-variants.{Free, 
 -- 4 CPUs, numbered in the two low bits.
 abbrev pub tagBits : ℕ
 tagBits = 2
+
+-- 16 CPUs, in the four low bits.
+abbrev pub wideTagBits : ℕ
+wideTagBits = 4
+
+-- How many bits a tag has.
+abbrev pub widthBits : Width → ℕ
+widthBits Width.Narrow = tagBits
+widthBits Width.Wide = wideTagBits
+
+-- The width that a flag asks for.
+abbrev pub widthBy : Bool → Width
+widthBy wide = cond wide Width.Wide Width.Narrow
 
 -- Nobody, or a thread on a CPU.
 pub data Holder : Type 0 where

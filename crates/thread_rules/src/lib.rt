@@ -5,10 +5,11 @@
 // numbers that no record may carry too, hands the thread's cell back as it was.
 ghost use mathlib.Core.Path.{_≡_};
 ghost use mathlib.Core.Bool.{_&&_, cond};
+ghost use Prim.Native.Nat.{_+_, _≤_};
 ghost use Rattle.error.specs.Codes.{EINVAL};
 ghost use Rattle.error.specs.Answer.{answer};
 ghost use Rattle.cpu_mask.specs.Mask.{maskSays};
-ghost use Rattle.machine.specs.State.{cpuSlots, hasCpu};
+ghost use Rattle.machine.specs.State.{hasCpu};
 ghost use Rattle.order.specs.Outcome.{appliedTo};
 ghost use Rattle.rules.specs.Rules.{
   threadSays,
@@ -22,10 +23,9 @@ ghost use Rattle.rules.specs.Rules.{
   ranged,
   carriable as Rules·carriable,
   onThread,
-  recordsOf,
-  runsOf,
   ipiOf,
 };
+ghost use Rattle.thread_rules.specs.Records.{HasRecords};
 use cpu_mask::CpuMaskResult;
 use cpu_mask::PinMask;
 use error::Code;
@@ -64,15 +64,22 @@ fn remasked(thread: Thread, a: CpuMaskResult) -> ThreadOut
     }
 }
 
-// 7: bits of a thread's mask are enabled and disabled.
+// 7: bits of a thread's mask are enabled and disabled. Pin-only is asked here and not in the rule alone: it is the same for a whole log, and without
+// it the rule need not look at the new mask (docs/PERFORMANCE.md).
 fn mask(setup: Setup, enable: u32, disable: u32, thread: Thread) -> ThreadOut
     ensures { λ r. ⌜ threadSays r ≡ appliedTo thread (Rules·mask setup enable disable thread) ⌝ }
 {
     let place = thread.place;
     let running = rules::is_placed(place);
+    if setup.pin_only {
+        return remasked(
+            thread,
+            cpu_mask::cpu_mask_mod(thread.mask, enable, disable, running, true),
+        );
+    }
     remasked(
         thread,
-        cpu_mask::cpu_mask_mod(thread.mask, enable, disable, running, setup.pin_only),
+        cpu_mask::cpu_mask_mod(thread.mask, enable, disable, running, false),
     )
 }
 
@@ -162,24 +169,36 @@ fn cpu_record(cpu: Cpu) -> CpuRecord
     }
 }
 
-// The CPU records of a machine's slots, and of nobody past them.
-fn cpu_records(cpus: [Cpu; CPU_SLOTS]) -> [CpuRecord; 16]
-    ensures { λ r. ⌜ r ≡ recordsOf (runsOf cpuSlots cpus) ⌝ }
+// The records of four CPUs more, from a place on.
+fn four_more(at: usize, cpus: [Cpu; CPU_SLOTS], records: [CpuRecord; 16]) -> [CpuRecord; 16]
+    requires { ⌜ at + 4 ≤ 16 ⌝ }
+    ensures { λ r. ⌜ (HasRecords at cpus records → HasRecords (at + 4) cpus r) ⌝ }
+{
+    let mut more = records;
+    more[at] = cpu_record(cpus[at]);
+    more[at + 1] = cpu_record(cpus[at + 1]);
+    more[at + 2] = cpu_record(cpus[at + 2]);
+    more[at + 3] = cpu_record(cpus[at + 3]);
+    more
+}
+
+// The records of the first n CPUs, each in its place. No rule looks at the others: of at most four CPUs the rest is left out, which a loop over n
+// could not do without a copy of every slot (docs/PERFORMANCE.md).
+fn cpu_records(n: u32, cpus: [Cpu; CPU_SLOTS]) -> [CpuRecord; 16]
+    requires { ⌜ n ≤ 16 ⌝ }
+    ensures { λ r. ⌜ HasRecords n cpus r ⌝ }
 {
     let nobody = CpuRecord {
         active: false,
         priority: 0,
     };
-    let mut records = [nobody; 16];
-    let k0 = cpus[0];
-    let k1 = cpus[1];
-    let k2 = cpus[2];
-    let k3 = cpus[3];
-    records[0] = cpu_record(k0);
-    records[1] = cpu_record(k1);
-    records[2] = cpu_record(k2);
-    records[3] = cpu_record(k3);
-    records
+    let four = four_more(0, cpus, [nobody; 16]);
+    if n <= 4 {
+        return four;
+    }
+    let eight = four_more(4, cpus, four);
+    let twelve = four_more(8, cpus, eight);
+    four_more(12, cpus, twelve)
 }
 
 // 10: the CPUs to interrupt for a thread, on a machine of this setup with these CPUs.
@@ -196,7 +215,7 @@ pub fn ipi(setup: Setup, c: CpuId, cpus: [Cpu; CPU_SLOTS], thread: Thread) -> An
         c.0,
         thread.priority,
         thread.mask,
-        cpu_records(cpus),
+        cpu_records(setup.n, cpus),
         setup.n,
         ipi::MAX_IPI_CPUS,
     );

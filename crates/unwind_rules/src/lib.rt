@@ -55,5 +55,6 @@ pub fn names(setup: Setup, word: u64, c: CpuId) -> bool
     if word == 0 {
         return false;
     }
-    word % setup.tags() == c.0 as u64
+    let named = setup.cpu_of(word);
+    named.0 == c.0
 }

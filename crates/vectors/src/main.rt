@@ -127,19 +127,22 @@ fn rest_of(s: &[u8], at: usize) -> &[u8] {
     if at <= s.len() { &s[at..] } else { &s[..0] }
 }
 
-// The exported call that an input asks for: its number, the length of its room, its arguments at their width.
+// The exported call that an input asks for: its number, the length of its room, its arguments at their width. A flag that is not there is 0.
 fn called(input: &[u8], room: &mut [u8]) -> i32 {
     let a = word_at(input, 2);
     let b = word_at(input, 6);
     let c = word_at(input, 10);
     let d = word_at(input, 14);
     let e = word_at(input, 18);
-    let wide = long_at(input, 6);
+    let long = long_at(input, 6);
     match byte_at(input, 0) {
-        0 => kernel::hubcrackle_spin_lock_compute_owner(a, wide, room),
-        1 => kernel::hubcrackle_spin_lock_decode_owner(long_at(input, 2), room),
-        2 => kernel::hubcrackle_spin_lock_valid(wide, a, room),
-        3 => kernel::hubcrackle_spin_unlock_valid(wide, a, long_at(input, 14), room),
+        0 => kernel::hubcrackle_spin_lock_compute_owner(a, long, d, room),
+        1 => kernel::hubcrackle_spin_lock_decode_owner(long_at(input, 2), c, room),
+        2 => kernel::hubcrackle_spin_lock_valid(long, a, d, room),
+        3 => {
+            let thread = long_at(input, 14);
+            kernel::hubcrackle_spin_unlock_valid(long, a, thread, word_at(input, 22), room)
+        }
         4 => kernel::hubcrackle_cpu_mask_mod(a, b, c, d, e, room),
         5 => kernel::hubcrackle_validate_pin_mask(a, room),
         6 => kernel::hubcrackle_cpu_pin_compute(a, b, room),
@@ -225,6 +228,6 @@ fn replay(path: &[u8], calls: bool) {
 }
 
 fn main() {
-    replay(b"logs-after-02.txt", false);
+    replay(b"logs-after-04.txt", false);
     replay(b"calls-01.txt", true);
 }

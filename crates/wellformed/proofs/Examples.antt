@@ -47,9 +47,12 @@ clauses m =
     ∷ allBelow (maskOk m) threadCount
     ∷ []
 
--- The fresh machine of n CPUs.
+-- The fresh machine of n CPUs, with narrow tags or with wide ones.
+abbrev freshBy : Bool → ℕ → Bool → Machine
+freshBy wide n pinOnly = let k : Setup = record { n = n; «pin_only» = pinOnly; wide = wide } in freshMachine k (freshThreads k)
+
 abbrev fresh : ℕ → Bool → Machine
-fresh n pinOnly = let k : Setup = record { n = n; «pin_only» = pinOnly } in freshMachine k (freshThreads k)
+fresh n pinOnly = freshBy false n pinOnly
 
 -- A machine with one cell changed: CPU c, thread 0, or lock 0.
 abbrev withCpu : ℕ → Cpu → Machine → Machine
@@ -70,14 +73,22 @@ holding =
     (withThread (record { mask = 1; priority = pos 0; place = Place.On (record { 0 = 0 }) })
     (withLock (record { state = record { owner = Owner.Thread 0; «nest_count» = 2; «irq_saved» = true }; word = 4 }) (fresh 1 true)))
 
+-- The same on CPU 15 of a wide machine. The word is the thread word 16 with CPU 15.
+abbrev holdingOn15 : Machine
+holdingOn15 =
+    withCpu 15 (record { run = record { active = true; current = Current.Thread (record { 0 = 0 }); priority = pos 0 }; hold = 2 })
+    (withThread (record { mask = 0x8000; priority = pos 0; place = Place.On (record { 0 = 15 }) })
+    (withLock (record { state = record { owner = Owner.Thread 0; «nest_count» = 2; «irq_saved» = true }; word = 31 }) (freshBy true 16 true)))
+
 pub these-are-well-formed :
     map wellFormed
     (fresh 1 false ∷ fresh 1 true
     ∷ fresh 2 false ∷ fresh 2 true
     ∷ fresh 3 false ∷ fresh 3 true
     ∷ fresh 4 false ∷ fresh 4 true
-    ∷ holding ∷ [])
-    ≡ replicate 9 true
+    ∷ freshBy true 1 false ∷ freshBy true 16 true
+    ∷ holding ∷ holdingOn15 ∷ [])
+    ≡ replicate 12 true
 unfolding wellFormed allBelow sumBelow isPriority freshMachine threadMask validRecord ones bit
 these-are-well-formed = refl
 
@@ -86,12 +97,28 @@ these-are-well-formed = refl
 abbrev fiveCpus : Machine
 fiveCpus = fresh 5 false
 
+abbrev seventeenCpus : Machine
+seventeenCpus = freshBy true 17 false
+
 -- n is 1, and CPU 1 is up.
 abbrev unusedUp : Machine
 unusedUp = withCpu 1 (record { run = idleRun true; hold = 0 }) (fresh 1 false)
 
 abbrev freeWithWord : Machine
 freeWithWord = withLock (record { state = freeRecord; word = 4 }) (fresh 1 false)
+
+-- A lock of a wide machine with the word that a narrow one would give it: 4 with CPU 0. Here it names CPU 4, which counts it.
+abbrev narrowWord : Machine
+narrowWord =
+    withCpu 0 (record { run = record { active = true; current = Current.Thread (record { 0 = 0 }); priority = pos 0 }; hold = 0 })
+    (withCpu 4 (record { run = idleRun true; hold = 2 })
+    (withThread (record { mask = 1; priority = pos 0; place = Place.On (record { 0 = 0 }) })
+    (withLock (record { state = record { owner = Owner.Thread 0; «nest_count» = 2; «irq_saved» = true }; word = 4 }) (freshBy true 16 true))))
+
+-- A hold that leaves CPU 15 out.
+abbrev forgets15 : Machine
+forgets15 =
+    withCpu 15 (record { run = record { active = true; current = Current.Thread (record { 0 = 0 }); priority = pos 0 }; hold = 0 }) holdingOn15
 
 abbrev holdWithoutLock : Machine
 holdWithoutLock = withCpu 0 (record { run = idleRun true; hold = 1 }) (fresh 1 false)
@@ -120,6 +147,19 @@ broken = fiveCpus ∷ unusedUp ∷ freeWithWord ∷ holdWithoutLock ∷ otherPri
 pub these-are-not : map wellFormed broken ≡ replicate 9 false
 unfolding wellFormed allBelow sumBelow isPriority freshMachine threadMask validRecord ones bit
 these-are-not = refl
+
+-- Machines that a wide tag makes possible, and that fail in one clause: more CPUs than it tells apart, a narrow word, and CPU 15's hold.
+abbrev brokenWide : List Machine
+brokenWide = seventeenCpus ∷ narrowWord ∷ forgets15 ∷ []
+
+pub nor-are-these :
+    map clauses brokenWide
+    ≡ (false ∷ true ∷ true ∷ true ∷ true ∷ true ∷ true ∷ true ∷ true ∷ [])
+    ∷ (true ∷ true ∷ false ∷ true ∷ true ∷ true ∷ true ∷ true ∷ true ∷ [])
+    ∷ (true ∷ true ∷ true ∷ false ∷ true ∷ true ∷ true ∷ true ∷ true ∷ [])
+    ∷ []
+unfolding allBelow sumBelow isPriority freshMachine threadMask validRecord ones bit
+nor-are-these = refl
 
 -- Each fails in its own clause, and in no other.
 pub each-clause-alone :

@@ -27,6 +27,7 @@ use Rattle.machine.specs.declared.Thread.{Thread}
 use Rattle.machine.specs.declared.Lock.{Lock}
 use Rattle.machine.specs.declared.Setup.{Setup}
 use Rattle.machine.specs.declared.Machine.{Machine}
+use Rattle.machine.proofs.Size.{Size, size-says, says-size}
 use Rattle.machine.proofs.CurrentThread.{is-current, current-is}
 use Rattle.machine.proofs.Priority.{priority-says, says-priority}
 use Rattle.element_tests.specs.Elements.{eqZ, isPlace, ownerOk, lockBy, currentBy, placeBy, idleBy}
@@ -58,13 +59,6 @@ holdAt m c = cpuAt m c .hold
 -- Thread t is current on CPU c.
 abbrev pub Runs : Machine → ℕ → ℕ → Type 0
 Runs m c t = currentAt m c ≡ Current.Thread (record { 0 = t })
-
--- ---- size
-
--- There are 1 to 4 CPUs.
-pub record Size (s : Setup) : Type 0 where
-  pub some : 1 ≤ s .n
-  pub few : s .n ≤ cpuSlots
 
 -- ---- seats: run cells and threads
 
@@ -301,10 +295,7 @@ says m e =
     let priorities = all-at (priorityOk m) threadCount (and-left (allBelow (priorityOk m) threadCount) _ priorities⁺) in
     let masks = all-at (maskOk m) threadCount (and-right (allBelow (priorityOk m) threadCount) _ priorities⁺) in
     record {
-      size = record {
-        some = leb-true 1 (m .setup .n) (and-left (leb 1 (m .setup .n)) _ size);
-        few = leb-true (m .setup .n) cpuSlots (and-right (leb 1 (m .setup .n)) _ size);
-      };
+      size = size-says (m .setup) size;
       seats = record {
         cpus = λ c h.
             record {
@@ -328,7 +319,7 @@ unfolding wellFormed
 says-back m w =
     let cpu = w .seats .cpus in
     let thread = w .seats .threads in
-    both (both (le-leb 1 (m .setup .n) (w .size .some)) (le-leb (m .setup .n) cpuSlots (w .size .few)))
+    both (says-size (m .setup) (w .size))
     (both (all-from (slotOk m) cpuSlots (λ c h. slot-back m c (cpu c h .down) (w .counts c h .unused)))
     (both (all-from (lockOk m) lockCount (λ l h. lock-back m (lockAt m l) (w .locks l h)))
     (both (all-from (holdOk m) cpuSlots (λ c h. eq-eqb _ _ (w .counts c h .is)))

@@ -18,7 +18,7 @@ unfoldable pub sumBelow : (ℕ → ℕ) → ℕ → ℕ
 sumBelow f zero = 0
 sumBelow f (suc k) = sumBelow f k + f k
 
--- n is 1 to 4.
+-- n is 1 to 4, to 16 if wide.
 abbrev pub sizeOk : Machine → Bool
 sizeOk m = setupOk (m .setup)
 

@@ -56,7 +56,7 @@ fn locks_ok(m: Machine) -> bool
         let k = m.locks[l];
         ok = ok & lock_ok(setup, cpus, k);
         if k.word != 0 {
-            let c = CpuId((k.word % setup.tags()) as u32);
+            let c = setup.cpu_of(k.word);
             sums[c.0 as usize] = sums[c.0 as usize] + depth_for(setup, k, c) as u64;
         }
         l += 1;

@@ -9,8 +9,8 @@ use Rattle.kernel.proofs.Answered.{answered}
 use Rattle.kernel.proofs.hubcrackle_spin_lock_compute_owner.Statement.{statement}
 use Rattle.kernel.proofs.hubcrackle_spin_lock_compute_owner.Tie as tie
 
-spin-lock-compute-owner-requires : tie.Need-spin-lock-compute-owner-requires
-spin-lock-compute-owner-requires c κs = search needs
+compute-owner-requires : tie.Need-compute-owner-requires
+compute-owner-requires c κs = search needs
 
 put-word-requires : tie.Need-put-word-requires
 put-word-requires c κs = search needs
@@ -23,8 +23,8 @@ returns c =
     let a = c .before .before .before .before .before .before in
     let p = c .before .before .put-word in
     let code = toZ-ofZ w32 (p .result) (record { sfits = p .ok }) ∙ p .ensures .0 in
-    answered wordBytes (now (a .args .out)) (c .before .before .before .before .spin-lock-compute-owner .ensures) code (p .ensures .1)
+    answered wordBytes (now (a .args .out)) (c .before .before .before .before .compute-owner .ensures) code (p .ensures .1)
 
 pub hubcrackle-spin-lock-compute-owner-spec : {M : Type 1} → statement M
 hubcrackle-spin-lock-compute-owner-spec =
-    tie.close (tie.spec spin-lock-compute-owner-requires put-word-requires same-length returns)
+    tie.close (tie.spec compute-owner-requires put-word-requires same-length returns)

@@ -11,8 +11,8 @@ use Rattle.kernel.proofs.Answered.{answered}
 use Rattle.kernel.proofs.hubcrackle_spin_lock_decode_owner.Statement.{statement}
 use Rattle.kernel.proofs.hubcrackle_spin_lock_decode_owner.Tie as tie
 
-spin-lock-decode-owner-requires : tie.Need-spin-lock-decode-owner-requires
-spin-lock-decode-owner-requires c κs = search needs
+decode-owner-requires : tie.Need-decode-owner-requires
+decode-owner-requires c κs = search needs
 
 enum-told : tie.Need-enum-told
 enum-told c = search needs
@@ -39,7 +39,7 @@ returns : tie.Need-returns
 returns c =
     let d = c .before .before .before .before .before .before in
     let p = c .before .before .put-holder in
-    let said = ap (λ (x : Decoded). decodedSays x) (sym (c .before .before .before .before .enum-told .given .1)) ∙ d .spin-lock-decode-owner .ensures in
+    let said = ap (λ (x : Decoded). decodedSays x) (sym (c .before .before .before .before .enum-told .given .1)) ∙ d .decode-owner .ensures in
     answered decodedBytes (now (d .before .before .args .out)) said (toZ-ofZ w32 (p .result) (record { sfits = p .ok }) ∙ p .ensures .0) (p .ensures .1)
 
 same-length-2 : tie.Need-same-length-2
@@ -49,7 +49,7 @@ returns-2 : tie.Need-returns-2
 returns-2 c =
     let d = c .before .before .before .before .before .before .before in
     let p = c .before .before .put-holder2 in
-    let said = ap (λ (x : Decoded). decodedSays x) (sym (c .before .before .before .before .before .thread .given .1)) ∙ d .spin-lock-decode-owner .ensures in
+    let said = ap (λ (x : Decoded). decodedSays x) (sym (c .before .before .before .before .before .thread .given .1)) ∙ d .decode-owner .ensures in
     answered decodedBytes (now (d .before .before .args .out)) said (toZ-ofZ w32 (p .result) (record { sfits = p .ok }) ∙ p .ensures .0) (p .ensures .1)
 
 same-length-3 : tie.Need-same-length-3
@@ -59,14 +59,14 @@ returns-3 : tie.Need-returns-3
 returns-3 c =
     let d = c .before .before .before .before .before .before in
     let p = c .before .before .put-holder3 in
-    let said = ap (λ (x : Decoded). decodedSays x) (sym (c .before .before .before .before .enum-told2 .given .1)) ∙ d .spin-lock-decode-owner .ensures in
+    let said = ap (λ (x : Decoded). decodedSays x) (sym (c .before .before .before .before .enum-told2 .given .1)) ∙ d .decode-owner .ensures in
     answered decodedBytes (now (d .before .before .args .out)) said (toZ-ofZ w32 (p .result) (record { sfits = p .ok }) ∙ p .ensures .0) (p .ensures .1)
 
 pub hubcrackle-spin-lock-decode-owner-spec : {M : Type 1} → statement M
 hubcrackle-spin-lock-decode-owner-spec =
     tie.close
     (tie.spec
-    spin-lock-decode-owner-requires
+    decode-owner-requires
     enum-told
     put-holder-requires
     enum-known-thread

@@ -9,8 +9,8 @@ use Rattle.kernel.proofs.Answered.{answered}
 use Rattle.kernel.proofs.hubcrackle_spin_lock_valid.Statement.{statement}
 use Rattle.kernel.proofs.hubcrackle_spin_lock_valid.Tie as tie
 
-spin-lock-valid-requires : tie.Need-spin-lock-valid-requires
-spin-lock-valid-requires c κs = search needs
+lock-valid-requires : tie.Need-lock-valid-requires
+lock-valid-requires c κs = search needs
 
 put-yes-no-requires : tie.Need-put-yes-no-requires
 put-yes-no-requires c κs = search needs
@@ -23,8 +23,8 @@ returns c =
     let a = c .before .before .before .before .before .before in
     let p = c .before .before .put-yes-no in
     let code = toZ-ofZ w32 (p .result) (record { sfits = p .ok }) ∙ p .ensures .0 in
-    answered yesNoBytes (now (a .args .out)) (c .before .before .before .before .spin-lock-valid .ensures) code (p .ensures .1)
+    answered yesNoBytes (now (a .args .out)) (c .before .before .before .before .lock-valid .ensures) code (p .ensures .1)
 
 pub hubcrackle-spin-lock-valid-spec : {M : Type 1} → statement M
 hubcrackle-spin-lock-valid-spec =
-    tie.close (tie.spec spin-lock-valid-requires put-yes-no-requires same-length returns)
+    tie.close (tie.spec lock-valid-requires put-yes-no-requires same-length returns)

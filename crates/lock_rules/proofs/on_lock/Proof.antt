@@ -28,7 +28,9 @@ exists-requires : tie.Need-exists-requires
 exists-requires c κs = search needs
 
 settled-requires : tie.Need-settled-requires
-settled-requires c κs = search needs
+settled-requires c κs =
+    let s = c .before .before .before .before .before .before in
+    sym (s .before .has-cpu .ensures) ∙ not-false _ (s .if1 .left)
 
 no-thread-requires-2 : tie.Need-no-thread-requires-2
 no-thread-requires-2 c κs = search needs

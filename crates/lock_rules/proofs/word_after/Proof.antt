@@ -1,10 +1,7 @@
 -- Each return is the rule's case that the tests on the way name. Assumes nothing.
-use mathlib.Core.Path.{sym, ap, _∙_}
-use Prim.Native.Nat.{ℕ}
+use mathlib.Core.Path.{sym, _∙_}
 use borrow.Author.Tests.{not-true, not-false}
-use Rattle.error.specs.Answer.{Answer}
-use Rattle.spinlock_validate.specs.Owner.{spinLockComputeOwner}
-use Rattle.machine.specs.State.{tagBits}
+use Rattle.lock_rules.proofs.Words.{word-is-made}
 use borrow.Author.Needs.{needs}
 use Rattle.lock_rules.proofs.word_after.Statement.{statement}
 use Rattle.lock_rules.proofs.word_after.Tie as tie
@@ -23,21 +20,16 @@ returns-2 c =
     let first = sym (c .before .before .before .before .has-owner .ensures) ∙ not-false _ (c .before .before .before .if1 .left) in
     simp (first, sym (c .before .has-owner2 .ensures) ∙ c .if2 .taken)
 
-thread-word-requires : tie.Need-thread-word-requires
-thread-word-requires c κs = search needs
-
-spin-lock-compute-owner-requires : tie.Need-spin-lock-compute-owner-requires
-spin-lock-compute-owner-requires c κs = search needs
+owner-word-requires : tie.Need-owner-word-requires
+owner-word-requires c κs = search needs
 
 returns-3 : tie.Need-returns-3
 returns-3 c =
-    let a = c .before .before .before .before .before .before .before .args in
-    let kept = c .before .before .before .before .before .before in
-    let first = sym (kept .has-owner .ensures) ∙ not-false _ (c .before .before .before .before .before .if1 .left) in
-    let second = sym (c .before .before .before .has-owner2 .ensures) ∙ c .before .before .if2 .left in
-    simp (first, second)
-    (ap (λ (x : Answer ℕ). x .value) (c .spin-lock-compute-owner .ensures)
-    ∙ ap (λ (w : ℕ). spinLockComputeOwner (tagBits (a .setup)) (a .c .0) w .value) (c .before .thread-word .ensures))
+    let kept = c .before .before .before .before .before in
+    let a = kept .before .args in
+    let first = sym (kept .has-owner .ensures) ∙ not-false _ (c .before .before .before .before .if1 .left) in
+    let second = sym (c .before .before .has-owner2 .ensures) ∙ c .before .if2 .left in
+    simp (first, second) (c .owner-word .ensures ∙ word-is-made (a .setup) (a .c .0) (a .t .0) (kept .before .pre))
 
 pub word-after-spec : {M : Type 1} → statement M
 word-after-spec =
@@ -47,6 +39,5 @@ word-after-spec =
     returns
     has-owner-requires-2
     returns-2
-    thread-word-requires
-    spin-lock-compute-owner-requires
+    owner-word-requires
     returns-3)

@@ -1,4 +1,4 @@
--- The three low bits are tested here, n by `fresh`. Assumes nothing.
+-- The two low bits are tested here, n by `fresh`. Assumes nothing.
 use borrow.Author.Tests.{eq-eqb, ne-eqb}
 use Rattle.machine.specs.State.{setup}
 use borrow.Author.Needs.{needs}
@@ -12,16 +12,20 @@ returns : tie.Need-returns
 unfolding setup
 returns c = simp (ne-eqb _ _ (c .before .if1 .taken)) (c .refused .ensures)
 
-cast-t5 : tie.Need-cast-t5
-cast-t5 c = search needs
+cast-cpu-field : tie.Need-cast-cpu-field
+cast-cpu-field c = search needs
+
+cpu-field-requires : tie.Need-cpu-field-requires
+cpu-field-requires c κs = search needs
 
 fresh-requires : tie.Need-fresh-requires
 fresh-requires c κs = search needs
 
 returns-2 : tie.Need-returns-2
 unfolding setup
-returns-2 c = simp (eq-eqb _ _ (c .before .if1 .left)) (c .fresh .ensures)
+returns-2 c = simp (eq-eqb _ _ (c .before .before .if1 .left), ← c .before .cpu-field .ensures) (c .fresh .ensures)
 
 pub from-setup-byte-spec : {M : Type 1} → statement M
 from-setup-byte-spec =
-    tie.close (tie.spec refused-requires returns cast-t5 fresh-requires returns-2)
+    tie.close
+    (tie.spec refused-requires returns cast-cpu-field cpu-field-requires fresh-requires returns-2)

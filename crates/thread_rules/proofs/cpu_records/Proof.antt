@@ -1,62 +1,37 @@
--- The first four records are the CPUs'. Assumes nothing.
+-- Four at a time, from none on. Assumes nothing.
 use borrow.Author.Needs.{needs}
+use native.Mathlib.Nat.{not-suc-le-zero}
+use native.Mathlib.Omega.{arith}
 use Rattle.thread_rules.proofs.cpu_records.Statement.{statement}
 use Rattle.thread_rules.proofs.cpu_records.Tie as tie
 
-array-copy-out-k0 : tie.Need-array-copy-out-k0
-array-copy-out-k0 c = search needs
-
-array-copy-out-k1 : tie.Need-array-copy-out-k1
-array-copy-out-k1 c = search needs
-
-array-copy-out-k2 : tie.Need-array-copy-out-k2
-array-copy-out-k2 c = search needs
-
-array-copy-out-k3 : tie.Need-array-copy-out-k3
-array-copy-out-k3 c = search needs
-
-cpu-record-requires : tie.Need-cpu-record-requires
-cpu-record-requires c κs = search needs
-
-array-set-from-records : tie.Need-array-set-from-records
-array-set-from-records c = search needs
-
-cpu-record-requires-2 : tie.Need-cpu-record-requires-2
-cpu-record-requires-2 c κs = search needs
-
-array-set-from-records-2 : tie.Need-array-set-from-records-2
-array-set-from-records-2 c = search needs
-
-cpu-record-requires-3 : tie.Need-cpu-record-requires-3
-cpu-record-requires-3 c κs = search needs
-
-array-set-from-records-3 : tie.Need-array-set-from-records-3
-array-set-from-records-3 c = search needs
-
-cpu-record-requires-4 : tie.Need-cpu-record-requires-4
-cpu-record-requires-4 c κs = search needs
-
-array-set-from-records-4 : tie.Need-array-set-from-records-4
-array-set-from-records-4 c = search needs
+four-more-requires : tie.Need-four-more-requires
+four-more-requires c κs = search needs
 
 returns : tie.Need-returns
-returns c =
-    simp (c .before .before .before .cpu-record .ensures, c .before .before .cpu-record2 .ensures, c .before .cpu-record3 .ensures, c .cpu-record4 .ensures)
+returns c = λ i h. c .before .four-more .ensures (λ _ none. absurd (not-suc-le-zero none)) i (omega arith)
+
+four-more-requires-2 : tie.Need-four-more-requires-2
+four-more-requires-2 c κs = search needs
+
+four-more-requires-3 : tie.Need-four-more-requires-3
+four-more-requires-3 c κs = search needs
+
+four-more-requires-4 : tie.Need-four-more-requires-4
+four-more-requires-4 c κs = search needs
+
+returns-2 : tie.Need-returns-2
+returns-2 c =
+    let four = c .before .before .before .before .four-more .ensures (λ _ none. absurd (not-suc-le-zero none)) in
+    λ i h. c .four-more4 .ensures (c .before .four-more3 .ensures (c .before .before .four-more2 .ensures four)) i (omega arith)
 
 pub cpu-records-spec : {M : Type 1} → statement M
 cpu-records-spec =
     tie.close
     (tie.spec
-    array-copy-out-k0
-    array-copy-out-k1
-    array-copy-out-k2
-    array-copy-out-k3
-    cpu-record-requires
-    array-set-from-records
-    cpu-record-requires-2
-    array-set-from-records-2
-    cpu-record-requires-3
-    array-set-from-records-3
-    cpu-record-requires-4
-    array-set-from-records-4
-    returns)
+    four-more-requires
+    returns
+    four-more-requires-2
+    four-more-requires-3
+    four-more-requires-4
+    returns-2)

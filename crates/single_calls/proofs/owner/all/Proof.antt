@@ -6,10 +6,10 @@ use Rattle.single_calls.proofs.owner.all.Statement.{statement}
 use Rattle.single_calls.proofs.owner.all.Tie as tie
 
 abbrev Inv-loop : tie.InvT-loop
-Inv-loop i₀ i = i ≤ 17
+Inv-loop i₀ i = i ≤ 22
 
 abbrev μ-loop : tie.MeasureT-loop
-μ-loop i₀ i = 17 - i
+μ-loop i₀ i = 22 - i
 
 loop-holds : tie.Need-loop-holds Inv-loop μ-loop
 loop-holds c = omega arith
@@ -22,6 +22,9 @@ array-read-word c = omega arith
 
 decode-requires : tie.Need-decode-requires Inv-loop μ-loop
 decode-requires c κs = search needs
+
+decode-requires-2 : tie.Need-decode-requires-2 Inv-loop μ-loop
+decode-requires-2 c κs = search needs
 
 on-each-cpu-requires : tie.Need-on-each-cpu-requires Inv-loop μ-loop
 on-each-cpu-requires c κs = search needs
@@ -48,6 +51,7 @@ all-spec =
     mul-word
     array-read-word
     decode-requires
+    decode-requires-2
     on-each-cpu-requires
     add-i
     loop-less

@@ -6,10 +6,10 @@ use Rattle.single_calls.proofs.owner.on_each_cpu.Statement.{statement}
 use Rattle.single_calls.proofs.owner.on_each_cpu.Tie as tie
 
 abbrev Inv-loop : tie.InvT-loop
-Inv-loop word i₀ i = i ≤ 7
+Inv-loop word i₀ i = i ≤ 9
 
 abbrev μ-loop : tie.MeasureT-loop
-μ-loop word i₀ i = 7 - i
+μ-loop word i₀ i = 9 - i
 
 loop-holds : tie.Need-loop-holds Inv-loop μ-loop
 loop-holds c = omega arith
@@ -20,20 +20,11 @@ mul-cpu c = omega arith
 array-read-cpu : tie.Need-array-read-cpu Inv-loop μ-loop
 array-read-cpu c = omega arith
 
-compute-requires : tie.Need-compute-requires Inv-loop μ-loop
-compute-requires c κs = search needs
+narrow-requires : tie.Need-narrow-requires Inv-loop μ-loop
+narrow-requires c κs = search needs
 
-lock-valid-requires : tie.Need-lock-valid-requires Inv-loop μ-loop
-lock-valid-requires c κs = search needs
-
-unlock-valid-requires : tie.Need-unlock-valid-requires Inv-loop μ-loop
-unlock-valid-requires c κs = search needs
-
-unlock-valid-requires-2 : tie.Need-unlock-valid-requires-2 Inv-loop μ-loop
-unlock-valid-requires-2 c κs = search needs
-
-unlock-valid-requires-3 : tie.Need-unlock-valid-requires-3 Inv-loop μ-loop
-unlock-valid-requires-3 c κs = search needs
+wide-requires : tie.Need-wide-requires Inv-loop μ-loop
+wide-requires c κs = search needs
 
 add-i : tie.Need-add-i Inv-loop μ-loop
 add-i c = omega arith
@@ -56,11 +47,8 @@ on-each-cpu-spec =
     loop-holds
     mul-cpu
     array-read-cpu
-    compute-requires
-    lock-valid-requires
-    unlock-valid-requires
-    unlock-valid-requires-2
-    unlock-valid-requires-3
+    narrow-requires
+    wide-requires
     add-i
     loop-less
     loop-again
