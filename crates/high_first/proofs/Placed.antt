@@ -29,7 +29,3 @@ module _ (xs bs room : List ℕ) (fits : length xs + length bs ≤ length room) 
   front-and-behind =
       rw (le-leb (length xs + length bs) (length room) fits, append-assoc (take (length xs) room), append-assoc xs bs, length-append)
       (ap (λ (l : List ℕ). xs ++ l) (drop-at (take (length xs) room) _ (length xs) (length-take-le (length xs) room (omega arith))))
-
-  pub both-placed : placed 0 xs (placed (length xs) bs room) ≡ (xs ++ bs) ++ drop (length (xs ++ bs)) room
-  both-placed =
-      in-front xs (placed (length xs) bs room) (omega (arith, length-placed bs room (length xs) fits)) ∙ front-and-behind

@@ -6,7 +6,7 @@ ghost use mathlib.Core.Path.{_≡_};
 ghost use mathlib.Core.List.{[], _∷_};
 ghost use lib.ListN.{length};
 ghost use Rattle.words.specs.HighFirst.{highFirst, fromHighFirst};
-ghost use Rattle.words.specs.Signed.{toSigned, fromSigned};
+ghost use Rattle.words.specs.Signed.{toSigned};
 ghost use Rattle.high_first.specs.Place.{hasRoom, placed};
 
 // Four bytes as a number, high byte first.
@@ -24,17 +24,6 @@ pub fn signed(bits: u32) -> i32
         bits as i32
     } else {
         -1 - ((0xffff_ffff - bits) as i32)
-    }
-}
-
-// The 32 bits that stand for a number.
-pub fn bits_of(number: i32) -> u32
-    ensures { λ r. ⌜ r ≡ fromSigned 31 «number» ⌝ }
-{
-    if number < 0 {
-        0xffff_ffff - ((-1 - number) as u32)
-    } else {
-        number as u32
     }
 }
 

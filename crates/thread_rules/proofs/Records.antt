@@ -5,12 +5,14 @@ use Prim.Native.Nat.{ℕ, zero, suc, _+_, _≤_}
 use native.Mathlib.Omega.{arith}
 use lib.ListN.{length, getD, set, take, length-set, List·getD-map}
 use lib.Seq.{take-suc, take-all}
-use Rattle.ipi.specs.Ipi.{noCpu as Ipi·noCpu}
+use Rattle.ipi.specs.Ipi.{noCpu as Ipi·noCpu, maxIpiCpus, computeIpiMask}
 use Rattle.ipi.specs.declared.CpuRecord.{CpuRecord}
-use Rattle.ipi.proofs.Places.{next-placed}
+use Rattle.ipi.proofs.Places.{next-placed, same-rule}
 use Rattle.machine.specs.State.{cpuSlots, noCpu}
+use Rattle.machine.specs.declared.Setup.{Setup}
 use Rattle.machine.specs.declared.Cpu.{Cpu}
-use Rattle.rules.specs.Rules.{cpuRecord, runsOf}
+use Rattle.machine.specs.declared.Thread.{Thread}
+use Rattle.rules.specs.Rules.{cpuRecord, runsOf, ipi, ipiOf}
 use Rattle.thread_rules.specs.Records.{recordAt, HasRecords}
 
 abbrev recordOf : Cpu → CpuRecord
@@ -47,3 +49,11 @@ runs-placed cpus all n i h =
     ap (λ (records : List CpuRecord). getD records i Ipi·noCpu)
     (records-below cpus cpuSlots (omega arith) ∙ ap (map recordOf) (take-all cpuSlots cpus (omega arith)))
     ∙ List·getD-map recordOf cpus i noCpu
+
+-- So the rule answers by any records that have the machine's CPUs in their places.
+pub by-records : (s : Setup) (c : ℕ) (cpus : List Cpu) (k : Thread) (records : List CpuRecord) → length cpus ≡ cpuSlots
+    → HasRecords (s .n) cpus records → computeIpiMask c (k .priority) (k .mask) records (s .n) maxIpiCpus ≡ ipiOf s c cpus k
+unfolding ipi
+by-records s c cpus k records all have =
+    same-rule (recordAt cpus) c (k .priority) (k .mask) (s .n) maxIpiCpus records (map cpuRecord (runsOf cpuSlots cpus)) have
+    (runs-placed cpus all (s .n))

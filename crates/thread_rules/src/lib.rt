@@ -9,6 +9,7 @@ ghost use Prim.Native.Nat.{_+_, _≤_};
 ghost use Rattle.error.specs.Codes.{EINVAL};
 ghost use Rattle.error.specs.Answer.{answer};
 ghost use Rattle.cpu_mask.specs.Mask.{maskSays};
+ghost use Rattle.ipi.specs.Ipi.{maxIpiCpus, computeIpiMask};
 ghost use Rattle.machine.specs.State.{hasCpu};
 ghost use Rattle.order.specs.Outcome.{appliedTo};
 ghost use Rattle.rules.specs.Rules.{
@@ -182,26 +183,37 @@ fn four_more(at: usize, cpus: [Cpu; CPU_SLOTS], records: [CpuRecord; 16]) -> [Cp
     more
 }
 
-// The records of the first n CPUs, each in its place. No rule looks at the others: of at most four CPUs the rest is left out, which a loop over n
-// could not do without a copy of every slot (docs/PERFORMANCE.md).
-fn cpu_records(n: u32, cpus: [Cpu; CPU_SLOTS]) -> [CpuRecord; 16]
-    requires { ⌜ n ≤ 16 ⌝ }
-    ensures { λ r. ⌜ HasRecords n cpus r ⌝ }
+// The records of all CPUs, when there are those of the first four.
+fn twelve_more(cpus: [Cpu; CPU_SLOTS], four: [CpuRecord; 16]) -> [CpuRecord; 16]
+    ensures { λ r. ⌜ (HasRecords 4 cpus four → HasRecords 16 cpus r) ⌝ }
 {
-    let nobody = CpuRecord {
-        active: false,
-        priority: 0,
-    };
-    let four = four_more(0, cpus, [nobody; 16]);
-    if n <= 4 {
-        return four;
-    }
     let eight = four_more(4, cpus, four);
     let twelve = four_more(8, cpus, eight);
     four_more(12, cpus, twelve)
 }
 
-// 10: the CPUs to interrupt for a thread, on a machine of this setup with these CPUs.
+// The interrupt rule on these records.
+fn ipi_by(setup: Setup, c: CpuId, records: [CpuRecord; 16], thread: Thread) -> Answered
+    ensures { λ r. ⌜ answeredSays r ≡ computeIpiMask (c .0) (thread .priority) (thread .mask) records (setup .n) maxIpiCpus ⌝ }
+{
+    let a = ipi::compute_ipi_mask(
+        c.0,
+        thread.priority,
+        thread.mask,
+        records,
+        setup.n,
+        ipi::MAX_IPI_CPUS,
+    );
+    let code = a.code;
+    Answered {
+        code,
+        value: a.mask,
+    }
+}
+
+// 10: the CPUs to interrupt for a thread, on a machine of this setup with these CPUs. The rule looks at no record from n on: of at most four CPUs
+// the other slots are not read. The rule is called in either case by itself, since records that come from two places are held in registers until
+// they are stored, and the other operations' registers go with them (docs/PERFORMANCE.md).
 pub fn ipi(setup: Setup, c: CpuId, cpus: [Cpu; CPU_SLOTS], thread: Thread) -> Answered
     ensures { λ r. ⌜ answeredSays r ≡ cond (hasCpu setup (c .0)) (ipiOf setup (c .0) cpus thread) (answer EINVAL 0) ⌝ }
 {
@@ -211,17 +223,13 @@ pub fn ipi(setup: Setup, c: CpuId, cpus: [Cpu; CPU_SLOTS], thread: Thread) -> An
             value: 0,
         };
     }
-    let a = ipi::compute_ipi_mask(
-        c.0,
-        thread.priority,
-        thread.mask,
-        cpu_records(setup.n, cpus),
-        setup.n,
-        ipi::MAX_IPI_CPUS,
-    );
-    let code = a.code;
-    Answered {
-        code,
-        value: a.mask,
+    let nobody = CpuRecord {
+        active: false,
+        priority: 0,
+    };
+    let four = four_more(0, cpus, [nobody; 16]);
+    if setup.n <= 4 {
+        return ipi_by(setup, c, four, thread);
     }
+    ipi_by(setup, c, twelve_more(cpus, four), thread)
 }

@@ -1,10 +1,11 @@
 -- Bytes, high byte first, and back: over the number of bytes. Assumes nothing.
 use mathlib.Core.Path.{_≡_, refl, sym, ap, ap₂, _∙_, subst⁻¹}
-use mathlib.Core.List.{List, [], _∷_}
+use mathlib.Core.List.{List, [], _∷_, _++_}
 use Prim.Native.Nat.{ℕ, zero, suc, _+_, _*_, _/_, _%_, _^_, _<_}
-use native.Mathlib.Nat.{mod-one, mod-eq-of-lt, zero-mul, zero-add, add-zero, mul-one, add-mul, mul-assoc}
+use native.Mathlib.Nat.{mod-one, mod-lt, mod-eq-of-lt, div-div-eq-div-mul, zero-mul, zero-add, suc-add, add-zero, mul-one, add-mul, mul-assoc}
 use native.Mathlib.Omega.{arith}
 use lib.Arith.{digits-mod, digits-lt}
+use lib.Dec.{lit<}
 use lib.ListN.{length, getD}
 use lib.Pow.{pow-add, mod-pow-add, high}
 use Rattle.words.specs.HighFirst.{highFirst, joined, fromHighFirst}
@@ -68,3 +69,22 @@ again before (b ∷ bs) small =
 -- What was read is written back.
 pub from-high-first-back : (bs : List ℕ) → AreBytes bs → highFirst (length bs) (fromHighFirst bs) ≡ bs
 from-high-first-back bs small = again 0 bs small
+
+high-first-bytes : (k n : ℕ) → AreBytes (highFirst k n)
+high-first-bytes zero n i = lit< tt
+high-first-bytes (suc k) n zero = mod-lt (n / 2 ^ (8 * k)) (lit< tt)
+high-first-bytes (suc k) n (suc i) = high-first-bytes k n i
+
+-- Two numbers written after one another are one number's bytes: the first counts for what the second's bytes can hold.
+module _ (k a b : ℕ) (h : b < 2 ^ (8 * k)) where
+  pub high-first-two : (j : ℕ) → highFirst (j + k) (a * 2 ^ (8 * k) + b) ≡ highFirst j a ++ highFirst k b
+  high-first-two zero =
+      let whole : joined a (highFirst k b) ≡ a * 2 ^ (8 * k) + b =
+      joined-high-first k a b ∙ ap (λ (n : ℕ). a * 2 ^ (8 * k) + n) (mod-eq-of-lt h) in
+      ap₂ highFirst (zero-add k ∙ sym (length-high-first k b)) (sym whole) ∙ again a (highFirst k b) (high-first-bytes k b)
+  high-first-two (suc j) =
+      let n = a * 2 ^ (8 * k) + b in
+      let place : 2 ^ (8 * (j + k)) ≡ 2 ^ (8 * k) * 2 ^ (8 * j) = ap (λ (x : ℕ). 2 ^ x) (omega arith) ∙ pow-add 2 (8 * k) (8 * j) in
+      let first : n / 2 ^ (8 * (j + k)) ≡ a / 2 ^ (8 * j) =
+      ap (λ (x : ℕ). n / x) place ∙ sym (div-div-eq-div-mul n (2 ^ (8 * k)) (2 ^ (8 * j))) ∙ ap (λ (x : ℕ). x / 2 ^ (8 * j)) (high a (8 * k) h) in
+      rw suc-add (ap₂ (λ (x : ℕ) (xs : List ℕ). x % 256 ∷ xs) first (high-first-two j))
