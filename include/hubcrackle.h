@@ -98,7 +98,7 @@ int32_t hubcrackle_spin_unlock_valid(uint64_t thread_cpu, uint32_t current_cpu_i
  */
 
 /* A thread's new mask: the current one with the bits of `enable` set and then those of `disable` cleared. is_running and pin_only are 0 for no
- * and 1 for yes. Value: HUBCRACKLE_MASK_BYTES; a mask of zero is a mask.
+ * and 1 for yes. Value: HUBCRACKLE_MASK_BYTES; a mask of zero is a mask, and with pin_only the one bit may be any of the 32.
  * EINVAL: the thread is running; pin_only is asked for, and the new mask has not exactly one bit; a flag is neither 0 nor 1. */
 int32_t hubcrackle_cpu_mask_mod(uint32_t current_mask, uint32_t enable, uint32_t disable, uint32_t is_running, uint32_t pin_only, uint8_t *out,
                                 size_t out_len);
@@ -131,9 +131,10 @@ int32_t hubcrackle_validate_ipi_mask(uint32_t mask, uint32_t current_cpu, uint32
  * A whole log.
  */
 
-/* Runs a log from its start on a fresh machine of 32 threads and 128 locks. The setup byte says the rest: 16 times the number of CPUs, 8 more if
- * every mask must have exactly one bit, and 4 more if the machine is wide. There are 1 to 4 CPUs, on a wide machine 1 to 16; 16 is written as 0, so
- * that the setup byte of a wide machine of sixteen is 4. A wide machine of 1 to 4 CPUs is another than a narrow one: its owner words are wide.
+/* Runs a log from its start on a fresh machine of 32 threads and 128 locks. The setup byte says the rest: 16 times the number of CPUs, 8 more for
+ * pin-only, under which every mask must have exactly one bit, that of a CPU of the machine, and 4 more if the machine is wide. There are 1 to 4
+ * CPUs, on a wide machine 1 to 16; 16 is written as 0, so that the setup byte of a wide machine of sixteen is 4. A wide machine of 1 to 4 CPUs is
+ * another than a narrow one: its owner words are wide.
  *
  * A record: byte 0 is 16 times the operation plus the CPU, byte 1 the thread, byte 2 the lock, byte 3 zero, bytes 4 to 7 A, bytes 8 to 11 B, the
  * last two most significant byte first. What an operation does not use is zero.
@@ -145,7 +146,7 @@ int32_t hubcrackle_validate_ipi_mask(uint32_t mask, uint32_t current_cpu, uint32
  *      3 take      CPU, thread             0
  *      4 acquire   CPU, lock, A            how deep the lock is held; A is 0, or 1 if it may nest
  *      6 release   CPU, lock               how deep the lock is held
- *      7 mask      thread, A on, B off     the thread's mask
+ *      7 mask      thread, A on, B off     the thread's mask; under pin-only one bit, of a CPU that there is
  *      8 pin       CPU, thread             the thread's mask
  *      9 priority  thread, A               0; A is -128 to 127, in two's complement
  *     10 ipi       CPU, thread             the CPUs to interrupt
@@ -154,6 +155,10 @@ int32_t hubcrackle_validate_ipi_mask(uint32_t mask, uint32_t current_cpu, uint32
  *
  * A plain acquire, A = 0, takes a free lock, and is EBUSY on a held one, to its holder too. A nested one, A = 1, takes the holder one level
  * deeper, up to 255. There is no operation 5: it was the nested acquire once, and is of another form now, whatever its fields are.
+ *
+ * Under pin-only operation 7 is EINVAL, and its value the current mask, if the new mask has not exactly one bit or if that bit is n or above, where
+ * n is the number of CPUs. Once a log took any one bit, so that a thread could be pinned to a CPU that there is not.
+ * hubcrackle_cpu_mask_mod has no n, and takes any one bit as before.
  *
  * An answer: the record's code, 4 bytes in two's complement, and its value, 4 bytes, both most significant byte first. A refused record has an
  * answer too, with the value as it stands, of unwind 0, and changes nothing; a record of another form is EINVAL with value 0.

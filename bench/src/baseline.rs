@@ -188,11 +188,16 @@ impl<const CPUS: usize> Machine<CPUS> {
             }
     }
 
+    /// A mask has one bit, a CPU's of the machine.
+    fn pins(&self, mask: u32) -> bool {
+        mask.count_ones() == 1 && mask >> self.n == 0
+    }
+
     fn thread_is_well_formed(&self, t: usize) -> bool {
         let thread = &self.threads[t];
         thread.place.is_none_or(|c| self.is_current(c as usize, t as u32))
             && (-128..=127).contains(&thread.priority)
-            && (!self.pin_only || thread.mask.count_ones() == 1)
+            && (!self.pin_only || self.pins(thread.mask))
     }
 
     fn is_well_formed(&self) -> bool {
@@ -291,8 +296,9 @@ impl<const CPUS: usize> Machine<CPUS> {
     }
 
     fn change_mask(&mut self, t: usize, mask: u32) -> Answer {
+        let refused = self.pin_only && !self.pins(mask);
         let thread = &mut self.threads[t];
-        if thread.place.is_some() || (self.pin_only && mask.count_ones() != 1) {
+        if thread.place.is_some() || refused {
             return (EINVAL, thread.mask);
         }
         thread.mask = mask;

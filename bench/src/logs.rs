@@ -13,9 +13,12 @@ pub struct Controller<const CPUS: usize> {
     threads: u64,
 }
 
-/// Four CPUs, and sixteen with wide tags; no pin-only. Fewer threads than a machine has, so that records meet each other's.
+/// Four CPUs, and sixteen with wide tags; pin-only in one log alone. Fewer threads than a machine has, so that records meet each other's.
 pub const NARROW: Controller<4> = Controller { setup: 0x40, threads: 8 };
 pub const WIDE: Controller<16> = Controller { setup: 0x04, threads: 24 };
+
+/// The setup byte's bit for pin-only.
+const PIN_ONLY: u8 = 8;
 
 /// Records, with the setup byte of their machine.
 #[derive(Clone)]
@@ -29,6 +32,7 @@ pub const KINDS: [&str; 13] = ["up", "down", "put", "take", "acquire", "nested",
 
 const ACQUIRE: usize = 4;
 const NESTED: usize = 5;
+const MASK: usize = 7;
 /// Where A's last byte stands in a record.
 const A_END: usize = 7;
 
@@ -155,6 +159,15 @@ impl<const CPUS: usize> Controller<CPUS> {
             }
         }
         self.filled(records, iter::repeat_with(|| named("ipi", random.below(cpus), random.below(self.threads - cpus) + cpus, 0)))
+    }
+
+    /// Under pin-only each record moves a thread to a CPU by its mask.
+    pub fn repinned(&self, random: &mut Random) -> Log {
+        let moves = iter::repeat_with(|| {
+            let bit = 1 << random.below(CPUS as u64);
+            packed(MASK, [0, random.below(self.threads) as u8, 0], [bit, !bit])
+        });
+        Log { setup: self.setup | PIN_ONLY, ..self.filled(Vec::new(), moves) }
     }
 
     /// No records.

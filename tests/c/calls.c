@@ -466,6 +466,34 @@ static void wide_logs(void)
         hubcrackle_run(0x04, log, log_len, out, 112));
 }
 
+/* Under pin-only a mask has one bit, and the bit is a CPU's of the machine. */
+static void pins(void)
+{
+    /* Thread 5 is moved by its mask from CPU 0 to CPU 9, to CPU 4 and to CPU 3: under pin-only four CPUs have the last alone, and it is put
+     * there. */
+    static const uint8_t log[] = { 0x70, 5, 0, 0, 0, 0, 0x02, 0x00, 0, 0, 0, 1, /**/ 0x70, 5, 0, 0, 0, 0, 0, 0x10, 0, 0, 0, 1, /**/
+                                   0x70, 5, 0, 0, 0, 0, 0, 0x08, 0, 0, 0, 1, /**/ 0x03, 0, 0, 0, 0, 0, 0, 0, 0, 0, 0, 0, /**/
+                                   0x23, 5, 0, 0, 0, 0, 0, 0, 0, 0, 0, 0 };
+    /* Bits 15 and 16 in turn. */
+    static const uint8_t past[] = { 0x70, 0, 0, 0, 0, 0, 0x80, 0, 0, 0, 0, 1, /**/ 0x70, 0, 0, 0, 0, 1, 0, 0, 0, 0, 0x80, 0 };
+
+    TRY(OK,
+        "ffffffea00000001"
+        "ffffffea00000001"
+        "0000000000000008"
+        "0000000000000000"
+        "0000000000000000",
+        hubcrackle_run(0x48, log, sizeof log, out, 40));
+    /* A wide machine of ten CPUs has CPU 9. */
+    TRY(OK, "0000000000000200", hubcrackle_run(0xac, log, 12, out, 8));
+    TRY(OK, "ffffffea00000001", hubcrackle_run(0x9c, log, 12, out, 8));
+    /* Without pin-only a mask may have any bits. */
+    TRY(OK, "00000000fffffffe", hubcrackle_run(0x40, log, 12, out, 8));
+    TRY(OK, "0000000000008000ffffffea00008000", hubcrackle_run(0x0c, past, sizeof past, out, 16));
+    /* The single call has no n. */
+    TRY(OK, "00000200", hubcrackle_cpu_mask_mod(1, 0x200, 1, 0, 1, out, 4));
+}
+
 /* The longest log: the first record is accepted, and the other 2047 are EALREADY. */
 static void longest_log(void)
 {
@@ -489,6 +517,7 @@ int main(void)
     unwinds();
     setups();
     wide_logs();
+    pins();
     longest_log();
     printf("%d calls, %d wrong\n", calls, wrong);
     return wrong != 0;

@@ -1,21 +1,23 @@
 -- Laws of masks: every bit of the new mask, when a call must succeed, and what its answer then is. Assumes nothing.
 use mathlib.Core.Path.{_≡_, refl, sym, ap, _∙_}
 use mathlib.Core.Logic.{_⊎_, inl, inr}
-use mathlib.Core.Bool.{Bool, true, false, _&&_, _||_, not, cond, false≢true}
+use mathlib.Core.Bool.{Bool, true, false, _&&_, _||_, not, cond, or-true, false≢true}
 use Prim.Native.Nat.{ℕ, _^_, _≤_, _<_}
-use lib.Bits.{bitOr, or-lt, and-lt}
+use native.Mathlib.Omega.{arith}
+use lib.Bits.{bitAnd, bitOr, or-lt, and-lt}
 use lib.Count.{ones}
 use lib.Dec.{eqb, leb, ltb}
-use lib.Pow.{ones-sub-lt}
-use borrow.Author.Tests.{eq-eqb, lt-ltb, le-leb, leb-true, ltb-true}
+use lib.Pow.{pow-lt, pow-mono, ones-sub-lt}
+use borrow.Author.Tests.{eq-eqb, lt-ltb, le-ltb, le-leb, leb-true, ltb-true}
 use Rattle.error.specs.Codes.{OK, EINVAL}
 use Rattle.error.specs.Answer.{answer}
 use Rattle.error.proofs.Answers.{same-value, refused-not-done}
 use Rattle.words.specs.Bit.{bit, bitNot}
 use Rattle.words.proofs.Choice.{bool-ind, below-or, and-left, and-right}
 use Rattle.words.proofs.Bits.{bit-or, bit-and, bit-not, bit-pow, bit-above-width}
+use Rattle.words.proofs.BitTests.{and-set}
 use Rattle.words.proofs.Ones.{pow-one}
-use Rattle.cpu_mask.specs.Mask.{maskBits, newMask, validatePinMask, cpuMaskMod, cpuPinCompute}
+use Rattle.cpu_mask.specs.Mask.{maskBits, newMask, validatePinMask, bitsBelow, cpuMaskMod, cpuPinCompute}
 
 -- Bit i of the new mask, for every i: set or enabled, and not disabled.
 pub new-mask-bit : (i current enable disable : ℕ) → current < 2 ^ maskBits → enable < 2 ^ maskBits → disable < 2 ^ maskBits
@@ -71,6 +73,24 @@ pin-succeeds cpu max hm hc = rw (le-leb max maskBits hm, lt-ltb cpu max hc)
 
 pub pin-bits : (cpu i : ℕ) → bit i (2 ^ cpu) ≡ eqb i cpu
 pin-bits cpu i = bit-pow i cpu
+
+-- Its bit is below n exactly if the CPU is.
+pub pin-below : (cpu n : ℕ) → bitsBelow (2 ^ cpu) n ≡ ltb cpu n
+pin-below cpu n = go (below-or cpu n)
+  where
+    go : (cpu < n) ⊎ (n ≤ cpu) → ltb (2 ^ cpu) (2 ^ n) ≡ ltb cpu n
+    go (inl h) = rw (lt-ltb cpu n h) (lt-ltb (2 ^ cpu) (2 ^ n) (pow-lt h))
+    go (inr h) = rw (le-ltb cpu n h) (le-ltb (2 ^ cpu) (2 ^ n) (pow-mono h))
+
+-- With that bit enabled and every other disabled it is the mask that is left, whatever the mask was.
+pub pin-leaves : (cpu current : ℕ) → cpu < maskBits → newMask current (2 ^ cpu) (bitNot maskBits (2 ^ cpu)) ≡ 2 ^ cpu
+pin-leaves cpu current h =
+    let twice : bitNot maskBits (bitNot maskBits (2 ^ cpu)) ≡ 2 ^ cpu = omega (arith, pow-lt h) in
+    let both = bitOr current (2 ^ cpu) in
+    let own : bit cpu (2 ^ cpu) ≡ true = pin-bits cpu cpu ∙ eq-eqb cpu cpu refl in
+    let set : bit cpu both ≡ true =
+    bit-or cpu current (2 ^ cpu) ∙ ap (λ (b : Bool). bit cpu current || b) own ∙ or-true (bit cpu current) in
+    ap (bitAnd both) twice ∙ and-set cpu both set
 
 -- A pin passes the pin test.
 pub pin-is-one-bit : (cpu : ℕ) → validatePinMask (2 ^ cpu) ≡ true

@@ -32,6 +32,10 @@ newMask current enable disable = bitAnd (bitOr current enable) (bitNot maskBits 
 abbrev pub validatePinMask : ℕ → Bool
 validatePinMask m = eqb (ones m) 1
 
+-- Every bit of a mask is below n.
+abbrev pub bitsBelow : ℕ → ℕ → Bool
+bitsBelow m n = ltb m (2 ^ n)
+
 -- Running is EINVAL; then pin-only with any number of ones but one is EINVAL. Refusals return the current mask.
 unfoldable pub cpuMaskMod : ℕ → ℕ → ℕ → Bool → Bool → Answer ℕ
 cpuMaskMod current enable disable running pinOnly =

@@ -1,11 +1,11 @@
 // CPU affinity masks: bit i says that a thread may run on CPU i.
 //
-// Upstream: src/cpu_mask.rs; cpu_mask_mod, validate_pin_mask, cpu_pin_compute and CpuMaskResult keep their names. `allows` is new here.
-// A mask of zero is a mask (upstream withdrew CM4): such a thread waits until bits are enabled again. A caller can rely on every bit of the
-// new mask (proofs/Laws.antt) and on the cases in which the call succeeds, not only on what success means.
+// Upstream: src/cpu_mask.rs; cpu_mask_mod, validate_pin_mask, cpu_pin_compute and CpuMaskResult keep their names. `allows` and `bits_below`
+// are new here. A mask of zero is a mask (upstream withdrew CM4): such a thread waits until bits are enabled again. A caller can rely on every
+// bit of the new mask (proofs/Laws.antt) and on the cases in which the call succeeds, not only on what success means.
 ghost use mathlib.Core.Path.{_≡_};
 ghost use Rattle.words.specs.Bit.{bit};
-ghost use Rattle.cpu_mask.specs.Mask.{newMask, validatePinMask, maskSays, pinSays, cpuMaskMod, cpuPinCompute};
+ghost use Rattle.cpu_mask.specs.Mask.{newMask, validatePinMask, bitsBelow, maskSays, pinSays, cpuMaskMod, cpuPinCompute};
 use error::Code;
 
 // How many bits a mask has: no CPU above them can be pinned.
@@ -34,6 +34,16 @@ pub fn allows(mask: u32, cpu: u32) -> bool
         return false;
     }
     mask & (1u32 << cpu) != 0
+}
+
+// Whether every bit of a mask is below n: it allows no CPU from n on.
+pub fn bits_below(mask: u32, n: u32) -> bool
+    ensures { λ r. ⌜ r ≡ bitsBelow mask n ⌝ }
+{
+    if n >= MASK_BITS {
+        return true;
+    }
+    mask < (1u32 << n)
 }
 
 fn new_mask(current_mask: u32, enable: u32, disable: u32) -> u32

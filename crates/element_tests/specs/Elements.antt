@@ -11,6 +11,7 @@ use Rattle.words.specs.Bit.{bit}
 use Rattle.words.specs.Tag.{wordOf, cpuOf}
 use Rattle.spinlock.specs.Lock.{validRecord}
 use Rattle.spinlock.specs.declared.Owner.{Owner}
+use Rattle.cpu_mask.specs.Mask.{bitsBelow}
 use Rattle.machine.specs.State.{threadCount, tagBits, threadWord, names, isCurrent, noCpu, noThread}
 use Rattle.machine.specs.declared.Current.{Current}
 use Rattle.machine.specs.declared.Place.{Place}
@@ -77,3 +78,7 @@ idleBy priority (Current.Thread t) = true
 -- Under pin-only each mask has one bit.
 abbrev pub maskBy : Bool → Thread → Bool
 maskBy pinOnly thread = not pinOnly || eqb (ones (thread .mask)) 1
+
+-- 02, request 5: under pin-only each mask's bit is below n.
+abbrev pub pinBy : Setup → Thread → Bool
+pinBy s thread = not (s .«pin_only») || bitsBelow (thread .mask) (s .n)

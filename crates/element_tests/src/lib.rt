@@ -17,6 +17,7 @@ ghost use Rattle.element_tests.specs.Elements.{
   placeBy,
   idleBy,
   maskBy,
+  pinBy,
 };
 use machine::CPU_SLOTS;
 use machine::Cpu;
@@ -214,4 +215,14 @@ pub fn mask_ok(setup: Setup, thread: Thread) -> bool
         return true;
     }
     cpu_mask::validate_pin_mask(thread.mask)
+}
+
+// Under pin-only the bit of each mask is below n.
+pub fn pin_ok(setup: Setup, thread: Thread) -> bool
+    ensures { λ r. ⌜ r ≡ pinBy setup thread ⌝ }
+{
+    if !setup.pin_only {
+        return true;
+    }
+    cpu_mask::bits_below(thread.mask, setup.n)
 }

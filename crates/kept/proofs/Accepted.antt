@@ -1,16 +1,19 @@
 -- What it takes for a rule on run cells and threads to accept, and what it then hands back. Assumes nothing.
-use mathlib.Core.Path.{_≡_, refl, sym}
-use mathlib.Core.Bool.{Bool, true, false, _||_, not, cond, false≢true}
-use Prim.Native.Nat.{ℕ}
+use mathlib.Core.Path.{_≡_, refl, sym, ap, _∙_}
+use mathlib.Core.Bool.{Bool, true, false, _&&_, _||_, not, cond, false≢true}
+use Prim.Native.Nat.{ℕ, _^_, _<_}
+use native.Mathlib.Nat.{le-refl}
 use lib.Dec.{eqb}
 use lib.Count.{ones}
 use lib.IntN.{ℤ}
-use borrow.Author.Tests.{eqb-true, not-false}
-use Rattle.error.specs.Codes.{OK, EINVAL}
-use Rattle.error.specs.Answer.{answer}
+use lib.Pow.{pow-lt}
+use borrow.Author.Tests.{eqb-true, ltb-true, not-false}
+use Rattle.error.specs.Codes.{OK, EINVAL, isOK}
+use Rattle.error.specs.Answer.{Answer, answer}
 use Rattle.words.specs.Bit.{bit, bitNot}
 use Rattle.words.proofs.Choice.{bool-ind}
-use Rattle.cpu_mask.specs.Mask.{maskBits, newMask, validatePinMask, cpuMaskMod}
+use Rattle.cpu_mask.specs.Mask.{maskBits, newMask, validatePinMask, bitsBelow, cpuMaskMod}
+use Rattle.cpu_mask.proofs.Laws.{pin-succeeds, pin-leaves}
 use Rattle.order.specs.Outcome.{Outcome, refuse, accept}
 use Rattle.machine.specs.State.{isCurrent, idleRun}
 use Rattle.machine.specs.declared.Current.{Current}
@@ -19,7 +22,26 @@ use Rattle.machine.specs.declared.Setup.{Setup}
 use Rattle.machine.specs.declared.Run.{Run}
 use Rattle.machine.specs.declared.Thread.{Thread}
 use Rattle.machine.proofs.CurrentThread.{is-current}
-use Rattle.rules.specs.Rules.{occupied, placed, up, down, seated, put, unseated, take, remasked, mask, cpuBit, pin, priority}
+use Rattle.rules.specs.Rules.{
+  occupied,
+  placed,
+  up,
+  down,
+  seated,
+  put,
+  unseated,
+  take,
+  refused,
+  done,
+  masked,
+  withinCpus,
+  remasked,
+  mask,
+  cpuBit,
+  pin,
+  priority,
+}
+use Rattle.wellformed.proofs.Facts.{Pinned}
 
 -- An outcome that is accepted hands back a value with Q.
 abbrev pub Accepting : {A W : Type 0} → (W → Type 0) → Outcome A W → Type 0
@@ -41,6 +63,10 @@ neither-left false b e = refl
 neither-right : (a b : Bool) → a || b ≡ false → b ≡ false
 neither-right true b e = absurd (false≢true (sym e))
 neither-right false b e = e
+
+not-both : (a b : Bool) → a && b ≡ false → a ≡ true → b ≡ false
+not-both true b e h = e
+not-both false b e h = absurd (false≢true h)
 
 -- Past a test that refuses, the test failed.
 past : {A W : Type 0} (Q : W → Type 0) (t : Bool) (a : A) (o : Outcome A W) → (t ≡ false → Accepting Q o) → Accepting Q (cond t (refuse a) o)
@@ -106,31 +132,80 @@ take-accepted t h r k =
       is = refl;
     }))
 
--- Mask and pin: the thread had no place; with pin-only the new mask has one bit. Priority: it had no place.
-pub record Masks (pinOnly : Bool) (k v : Thread) : Type 0 where
+-- Mask and pin: the thread had no place; with pin-only the new mask has one bit, below n. Priority: it had no place.
+pub record Masks (s : Setup) (k v : Thread) : Type 0 where
   pub nowhere : k .place ≡ Place.Nowhere
-  pub one : pinOnly ≡ true → ones (v .mask) ≡ 1
+  pub mask : Pinned s (v .mask)
   pub priority : v .priority ≡ k .priority
   pub place : v .place ≡ k .place
 
-mask-settled : (enable disable : ℕ) (pinOnly : Bool) (k : Thread) (running : Bool) → placed (k .place) ≡ running
-    → Accepting (Masks pinOnly k) (remasked k (cpuMaskMod (k .mask) enable disable running pinOnly))
+-- What an answer that is settled on a thread has to show, where its code is OK.
+record Settles (s : Setup) (k : Thread) (bits : ℕ) : Type 0 where
+  pub nowhere : k .place ≡ Place.Nowhere
+  pub mask : Pinned s bits
+
+remasked-accepted : (s : Setup) (k : Thread) (a : Answer ℕ) → (isOK (a .code) ≡ true → Settles s k (a .value)) → Accepting (Masks s k) (remasked k a)
+remasked-accepted s k a settles =
+    let new : Thread = record { mask = a .value; priority = k .priority; place = k .place } in
+    bool-ind
+    (λ b. (b ≡ true → Settles s k (a .value)) → Accepting (Masks s k) (cond b (done (a .value) new) (refused (a .code) (a .value))))
+    (isOK (a .code)) (λ _ f. let shown = f refl in record { nowhere = shown .nowhere; mask = shown .mask; priority = refl; place = refl })
+    (λ _ _. tt) settles
+
+-- The mask rule, where its code is OK: the thread had no place, and its value is the new mask, with one bit if pin-only.
+record Ruled (pinOnly : Bool) (k : Thread) (new value : ℕ) : Type 0 where
+  pub nowhere : k .place ≡ Place.Nowhere
+  pub is : value ≡ new
+  pub one : pinOnly ≡ true → ones value ≡ 1
+
+mask-ruled : (enable disable : ℕ) (pinOnly : Bool) (k : Thread) (running : Bool) → placed (k .place) ≡ running
+    → isOK (cpuMaskMod (k .mask) enable disable running pinOnly .code) ≡ true
+    → Ruled pinOnly k (newMask (k .mask) enable disable) (cpuMaskMod (k .mask) enable disable running pinOnly .value)
 unfolding cpuMaskMod
-mask-settled enable disable pinOnly k true e = tt
-mask-settled enable disable false k false e =
-    record { nowhere = not-placed (k .place) e; one = λ p. absurd (false≢true p); priority = refl; place = refl }
-mask-settled enable disable true k false e =
+mask-ruled enable disable pinOnly k true e ok = absurd (false≢true ok)
+mask-ruled enable disable false k false e ok = record { nowhere = not-placed (k .place) e; is = refl; one = λ p. absurd (false≢true p) }
+mask-ruled enable disable true k false e ok =
     let new = newMask (k .mask) enable disable in
-    bool-ind (λ b. Accepting (Masks true k) (remasked k (cond (not b) (answer EINVAL (k .mask)) (answer OK new)))) (validatePinMask new)
-    (λ good. record { nowhere = not-placed (k .place) e; one = λ _. eqb-true (ones new) 1 good; priority = refl; place = refl }) (λ _. tt)
+    let answered : Bool → Answer ℕ = λ b. cond (not b) (answer EINVAL (k .mask)) (answer OK new) in
+    bool-ind (λ b. isOK (answered b .code) ≡ true → Ruled true k new (answered b .value)) (validatePinMask new)
+    (λ good _. record { nowhere = not-placed (k .place) e; is = refl; one = λ _. eqb-true (ones new) 1 good })
+    (λ _ refusal. absurd (false≢true refusal)) ok
 
-pub mask-accepted : (s : Setup) (enable disable : ℕ) (k : Thread) → Accepting (Masks (s .«pin_only») k) (mask s enable disable k)
+ruled-by : (s : Setup) (enable disable : ℕ) (k : Thread) → isOK (masked s enable disable k .code) ≡ true
+    → Ruled (s .«pin_only») k (newMask (k .mask) enable disable) (masked s enable disable k .value)
+ruled-by s enable disable k = mask-ruled enable disable (s .«pin_only») k (placed (k .place)) refl
+
+-- The test after it passes only a bit below n.
+pub mask-accepted : (s : Setup) (enable disable : ℕ) (k : Thread) → Accepting (Masks s k) (mask s enable disable k)
 unfolding mask
-mask-accepted s enable disable k = mask-settled enable disable (s .«pin_only») k (placed (k .place)) refl
+mask-accepted s enable disable k = remasked-accepted s k (withinCpus s (k .mask) a) (tested test refl)
+  where
+    a : Answer ℕ
+    a = masked s enable disable k
 
-pub pin-accepted : (s : Setup) (c : ℕ) (k : Thread) → Accepting (Masks (s .«pin_only») k) (pin s c k)
+    test : Bool
+    test = s .«pin_only» && not (bitsBelow (a .value) (s .n))
+
+    below : test ≡ false → s .«pin_only» ≡ true → a .value < 2 ^ (s .n)
+    below passed pinned = ltb-true (a .value) (2 ^ (s .n)) (not-false (bitsBelow (a .value) (s .n)) (not-both _ _ passed pinned))
+
+    tested : (t : Bool) → test ≡ t → isOK (cond t (answer EINVAL (k .mask)) a .code) ≡ true → Settles s k (cond t (answer EINVAL (k .mask)) a .value)
+    tested true e ok = absurd (false≢true ok)
+    tested false e ok =
+        let ruled = ruled-by s enable disable k ok in
+        record { nowhere = ruled .nowhere; mask = record { one = ruled .one; below = below e } }
+
+-- A pin leaves its CPU's bit alone, and the CPU is below n.
+pub pin-accepted : (s : Setup) (c : ℕ) → c < s .n → c < maskBits → (k : Thread) → Accepting (Masks s k) (pin s c k)
 unfolding pin
-pin-accepted s c k = mask-accepted s (cpuBit c) (bitNot maskBits (cpuBit c)) k
+pin-accepted s c own fits k =
+    remasked-accepted s k (masked s (cpuBit c) (bitNot maskBits (cpuBit c)) k)
+    (λ ok.
+    let ruled = ruled-by s (cpuBit c) (bitNot maskBits (cpuBit c)) k ok in
+    let bit-is : cpuBit c ≡ 2 ^ c = ap (λ (x : Answer ℕ). x .value) (pin-succeeds c maskBits (le-refl maskBits) fits) in
+    let left : masked s (cpuBit c) (bitNot maskBits (cpuBit c)) k .value ≡ 2 ^ c =
+    ruled .is ∙ ap (λ (b : ℕ). newMask (k .mask) b (bitNot maskBits b)) bit-is ∙ pin-leaves c (k .mask) fits in
+    record { nowhere = ruled .nowhere; mask = record { one = ruled .one; below = λ _. rw left (pow-lt own) } })
 
 pub record Priorities (a : ℤ) (k v : Thread) : Type 0 where
   pub nowhere : k .place ≡ Place.Nowhere

@@ -86,11 +86,11 @@ module _ (m : Machine) (s : Lengths m) (w : WellFormed m) where
   down-kept : (c : ℕ) → c < m .setup .n → (v : Run) → Downs (cpuAt m c .run) v → WellFormed (put (run c) v m)
   down-kept c h v u = rw (u .is) (idled-kept m s w c h (u .idle) false)
 
-  mask-kept : (t : ℕ) → t < threadCount → (v : Thread) → Masks (m .setup .«pin_only») (threadAt m t) v → WellFormed (setThread m t v)
+  mask-kept : (t : ℕ) → t < threadCount → (v : Thread) → Masks (m .setup) (threadAt m t) v → WellFormed (setThread m t v)
   mask-kept t h v k =
       let fit = w .seats .threads t h .fit in
       thread-kept m s w t h v (k .nowhere) (k .place ∙ k .nowhere)
-      (record { least = rw (k .priority) (fit .least); greatest = rw (k .priority) (fit .greatest); mask = k .one })
+      (record { least = rw (k .priority) (fit .least); greatest = rw (k .priority) (fit .greatest); mask = k .mask })
 
   priority-kept : (t : ℕ) → t < threadCount → (a : ℤ) → (negℤ (pos 128) ≤ℤ a) × (a ≤ℤ pos 127) → (v : Thread)
       → Priorities a (threadAt m t) v → WellFormed (setThread m t v)
@@ -123,14 +123,16 @@ module _ (m : Machine) (s : Lengths m) (w : WellFormed m) where
       (λ v g. relocked-kept m s w c l hc hl _ v g)
 
   -- So does one on a thread.
-  on-thread-kept : (op : ThreadOperation) (c t : ℕ) → t < threadCount → priorityOk (Operation.OnThread op) ≡ true
+  on-thread-kept : (op : ThreadOperation) (c t : ℕ) → c < m .setup .n → t < threadCount → priorityOk (Operation.OnThread op) ≡ true
       → WellFormed (afterwards (onThread (m .setup) op c t))
-  on-thread-kept (ThreadOperation.Mask enable disable) c t ht p =
+  on-thread-kept (ThreadOperation.Mask enable disable) c t hc ht p =
       let k = threadAt m t in
       thread-outcome m w t _ (Rules.mask (m .setup) enable disable k) (mask-accepted (m .setup) enable disable k) (mask-kept t ht)
-  on-thread-kept ThreadOperation.Pin c t ht p =
-      let k = threadAt m t in thread-outcome m w t _ (Rules.pin (m .setup) c k) (pin-accepted (m .setup) c k) (mask-kept t ht)
-  on-thread-kept (ThreadOperation.Priority a) c t ht p =
+  on-thread-kept ThreadOperation.Pin c t hc ht p =
+      let k = threadAt m t in
+      let accepted = pin-accepted (m .setup) c hc (omega (arith, w .size .few)) k in
+      thread-outcome m w t _ (Rules.pin (m .setup) c k) accepted (mask-kept t ht)
+  on-thread-kept (ThreadOperation.Priority a) c t hc ht p =
       let k = threadAt m t in
       thread-outcome m w t _ (Rules.priority a k) (priority-accepted a k) (priority-kept t ht a (priority-says a p))
 
@@ -140,7 +142,7 @@ module _ (m : Machine) (s : Lengths m) (w : WellFormed m) where
   operation-kept Operation.Malformed c t l hc ht hl p = w
   operation-kept (Operation.OnCpu op) c t l hc ht hl p = cpu-kept op c t hc ht
   operation-kept (Operation.OnLock op) c t l hc ht hl p = lock-kept op c l hc hl
-  operation-kept (Operation.OnThread op) c t l hc ht hl p = on-thread-kept op c t ht p
+  operation-kept (Operation.OnThread op) c t l hc ht hl p = on-thread-kept op c t hc ht p
   operation-kept Operation.Ipi c t l hc ht hl p =
       rw (writes-none m (result machineStore (Answer ℕ) (operationBy (m .setup) Operation.Ipi c t l) m)) w
   operation-kept Operation.Owner c t l hc ht hl p = w

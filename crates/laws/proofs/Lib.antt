@@ -11,3 +11,4 @@ pub mod StoppedJob
 pub mod Accident
 pub mod FormerRows
 pub mod OneAcquire
+pub mod PinnedThread

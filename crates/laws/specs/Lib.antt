@@ -1,3 +1,4 @@
 pub mod Marked
 pub mod Accident
 pub mod FormerForm
+pub mod Pinned

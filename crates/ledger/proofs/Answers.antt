@@ -19,7 +19,7 @@ use Rattle.spinlock.specs.Lock.{validRecord, situationAt, operate}
 use Rattle.spinlock.specs.declared.SpinlockState.{SpinlockState}
 use Rattle.spinlock.specs.declared.Operation.{Operation as LockOperation}
 use Rattle.spinlock.specs.declared.Situation.{Situation}
-use Rattle.cpu_mask.specs.Mask.{maskBits, newMask, validatePinMask, cpuMaskMod}
+use Rattle.cpu_mask.specs.Mask.{maskBits, newMask, validatePinMask, bitsBelow, cpuMaskMod}
 use Rattle.ipi.specs.Ipi.{maxIpiCpus, countsFit, computeIpiMask}
 use Rattle.order.specs.Outcome.{Outcome, refuse, accept, answerOf}
 use Rattle.order.specs.Cells.{Vals, reply}
@@ -127,15 +127,24 @@ mod-coded current enable disable running pinOnly =
     either Coded running _ _ (is-code Code.Einval)
     (either Coded (pinOnly && not (validatePinMask (newMask current enable disable))) _ _ (is-code Code.Einval) (is-code Code.Ok))
 
+masked-coded : (s : Setup) (enable disable : ℕ) (k : Thread) → Coded (Rules.masked s enable disable k)
+masked-coded s enable disable k = mod-coded (k .mask) enable disable (Rules.placed (k .place)) (s .«pin_only»)
+
+remasked-coded : (k : Thread) (a : Answer ℕ) → Coded a → CodedOutcome (Rules.remasked k a)
+remasked-coded k a coded = either CodedOutcome (isOK (a .code)) _ _ (is-code Code.Ok) coded
+
 mask-coded : (s : Setup) (enable disable : ℕ) (k : Thread) → CodedOutcome (Rules.mask s enable disable k)
 unfolding Rules.mask
 mask-coded s enable disable k =
-    either CodedOutcome (isOK (cpuMaskMod (k .mask) enable disable (Rules.placed (k .place)) (s .«pin_only») .code)) _ _ (is-code Code.Ok)
-    (mod-coded (k .mask) enable disable (Rules.placed (k .place)) (s .«pin_only»))
+    let a = Rules.masked s enable disable k in
+    remasked-coded k (Rules.withinCpus s (k .mask) a)
+    (either Coded (s .«pin_only» && not (bitsBelow (a .value) (s .n))) _ _ (is-code Code.Einval) (masked-coded s enable disable k))
 
 pin-coded : (s : Setup) (c : ℕ) (k : Thread) → CodedOutcome (Rules.pin s c k)
 unfolding Rules.pin
-pin-coded s c k = mask-coded s (Rules.cpuBit c) (bitNot maskBits (Rules.cpuBit c)) k
+pin-coded s c k =
+    let bits = bitNot maskBits (Rules.cpuBit c) in
+    remasked-coded k (Rules.masked s (Rules.cpuBit c) bits k) (masked-coded s (Rules.cpuBit c) bits k)
 
 priority-coded : (a : ℤ) (k : Thread) → CodedOutcome (Rules.priority a k)
 unfolding Rules.priority

@@ -8,6 +8,7 @@ use Prim.Native.Nat.{ℕ, _+_, _*_, _/_, _^_, _≤_, _<_}
 use native.Mathlib.Omega.{arith}
 use lib.Count.{ones}
 use lib.IntN.{pos}
+use lib.Pow.{pow-lt}
 use lib.ListN.{length, getD-replicate}
 use Rattle.error.specs.Codes.{isOK}
 use Rattle.machine.specs.State.{
@@ -66,18 +67,28 @@ module _ (s : Setup) where
   good-cpu c h =
       rw (cpu-is c h) (record { down = λ _. refl; current = λ t e. absurd (none-or-thread e); idle = λ _. refl })
 
+  -- With pin-only it is CPU 0's bit, and there is a CPU 0.
   fresh-mask : (pinOnly : Bool) → pinOnly ≡ true → ones (threadMask pinOnly) ≡ 1
   unfolding threadMask ones
   fresh-mask true e = refl
   fresh-mask false e = absurd (false≢true e)
 
-  good-thread : (t : ℕ) → t < threadCount → GoodThread s (currentAt (freshOf s)) t (threadAt (freshOf s) t)
+  fresh-below : (pinOnly : Bool) → pinOnly ≡ true → 1 ≤ s .n → threadMask pinOnly < 2 ^ (s .n)
+  unfolding threadMask
+  fresh-below true e some = pow-lt some
+  fresh-below false e some = absurd (false≢true e)
+
+  good-thread : 1 ≤ s .n → (t : ℕ) → t < threadCount → GoodThread s (currentAt (freshOf s)) t (threadAt (freshOf s) t)
   unfolding isPriority freshMachine
-  good-thread t h =
+  good-thread some t h =
       let range = priority-says (pos 0) refl in
       rw (thread-is t h) (record {
         place = λ c e. absurd (nowhere-or-on e);
-        fit = record { least = range .0; greatest = range .1; mask = fresh-mask (s .«pin_only») };
+        fit = record {
+          least = range .0;
+          greatest = range .1;
+          mask = record { one = fresh-mask (s .«pin_only»); below = λ pinned. fresh-below (s .«pin_only») pinned some };
+        };
       })
 
   good-lock : (l : ℕ) → l < lockCount → GoodLock s (currentAt (freshOf s)) (lockAt (freshOf s) l)
@@ -104,7 +115,7 @@ module _ (s : Setup) where
   fresh-formed some few =
       says-back (freshOf s) (record {
         size = sized s some few;
-        seats = record { cpus = good-cpu; threads = good-thread };
+        seats = record { cpus = good-cpu; threads = good-thread some };
         locks = good-lock;
         counts = good-hold;
       })

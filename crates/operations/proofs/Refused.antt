@@ -13,7 +13,7 @@ use Rattle.order.specs.Outcome.{Outcome, refuse, accept, accepted, answerOf}
 use Rattle.order.specs.Cells.{Op, Vals, result, commit, after, reply}
 use Rattle.spinlock.specs.declared.SpinlockState.{SpinlockState}
 use Rattle.spinlock.specs.declared.Operation.{Operation as LockOperation}
-use Rattle.cpu_mask.specs.Mask.{maskBits, cpuMaskMod}
+use Rattle.cpu_mask.specs.Mask.{maskBits}
 use Rattle.machine.specs.State.{isThread, isCurrent, cpuAt, threadAt, lockAt}
 use Rattle.machine.specs.declared.Current.{Current}
 use Rattle.machine.specs.declared.Setup.{Setup}
@@ -95,11 +95,11 @@ remasked-done k a = either (isOK (a .code)) finished refusal
 
 mask-done : (s : Setup) (enable disable : ℕ) (k : Thread) → DoneIsOK (Rules.mask s enable disable k)
 unfolding Rules.mask
-mask-done s enable disable k = remasked-done k (cpuMaskMod (k .mask) enable disable (Rules.placed (k .place)) (s .«pin_only»))
+mask-done s enable disable k = remasked-done k (Rules.withinCpus s (k .mask) (Rules.masked s enable disable k))
 
 pin-done : (s : Setup) (c : ℕ) (k : Thread) → DoneIsOK (Rules.pin s c k)
 unfolding Rules.pin
-pin-done s c k = mask-done s (Rules.cpuBit c) (bitNot maskBits (Rules.cpuBit c)) k
+pin-done s c k = remasked-done k (Rules.masked s (Rules.cpuBit c) (bitNot maskBits (Rules.cpuBit c)) k)
 
 priority-done : (a : ℤ) (k : Thread) → DoneIsOK (Rules.priority a k)
 unfolding Rules.priority

@@ -46,7 +46,7 @@ answer-one : {A W : Type 0} (o : Outcome A W) → answerOf o ≡ answerOf (one o
 answer-one (refuse a) = refl
 answer-one (accept a w) = refl
 
-answer-two : {A W X : Type 0} (o : Outcome A (W × X)) → answerOf o ≡ answerOf (two o)
+pub answer-two : {A W X : Type 0} (o : Outcome A (W × X)) → answerOf o ≡ answerOf (two o)
 answer-two (refuse a) = refl
 answer-two (accept a w) = refl
 

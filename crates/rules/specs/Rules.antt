@@ -1,7 +1,7 @@
--- 01, "Log records", and 02, request 1: the operations, each a function of the cells that it names. The tests stand in the order of 01's table,
--- after the form test; a value on a refusal is the one that stands after the unchanged call.
+-- 01, "Log records", and 02, requests 1 and 5: the operations, each a function of the cells that it names. The tests stand in the order of 01's
+-- table, after the form test; a value on a refusal is the one that stands after the unchanged call.
 use Prim.Native.Nat.{ℕ, zero, suc, _+_, _-_, _%_, _^_}
-use mathlib.Core.Bool.{Bool, true, false, _||_, not, cond}
+use mathlib.Core.Bool.{Bool, true, false, _&&_, _||_, not, cond}
 use mathlib.Core.List.{List, [], _∷_, _++_, map}
 use lib.Dec.{eqb, ltb}
 use lib.IntN.{ℤ}
@@ -13,7 +13,7 @@ use Rattle.spinlock_validate.specs.Owner.{spinLockComputeOwner, spinUnlockValid
 use Rattle.spinlock.specs.Lock.{operate, held}
 use Rattle.spinlock.specs.declared.SpinlockState.{SpinlockState}
 use Rattle.spinlock.specs.declared.Operation.{Operation}
-use Rattle.cpu_mask.specs.Mask.{maskBits, cpuMaskMod, cpuPinCompute}
+use Rattle.cpu_mask.specs.Mask.{maskBits, bitsBelow, cpuMaskMod, cpuPinCompute}
 use Rattle.ipi.specs.Ipi.{maxIpiCpus, computeIpiMask}
 use Rattle.ipi.specs.declared.CpuRecord.{CpuRecord}
 use Rattle.order.specs.Outcome.{Outcome, refuse, accept, answerOf, cellsAfter, appliedTo, accepted}
@@ -183,7 +183,15 @@ withLock op cpu lock o = (answerOf o, (record { run = cpu .run; hold = holdAfter
 unfoldable pub onLock : Setup → Operation → ℕ → Cpu → Lock → Answer ℕ × (Cpu × Lock)
 onLock s op c cpu lock = withLock op cpu lock (lockOp s op c (cpu .run) lock)
 
--- The mask rule, running = placed. The value is the mask after.
+-- The mask rule, running = placed.
+abbrev pub masked : Setup → ℕ → ℕ → Thread → Answer ℕ
+masked s enable disable thread = cpuMaskMod (thread .mask) enable disable (placed (thread .place)) (s .«pin_only»)
+
+-- 02, request 5, after it: under pin-only EINVAL with the current mask unless the one bit that is left is below n.
+abbrev pub withinCpus : Setup → ℕ → Answer ℕ → Answer ℕ
+withinCpus s current a = cond (s .«pin_only» && not (bitsBelow (a .value) (s .n))) (answer EINVAL current) a
+
+-- What these come to: the thread after it, or its refusal. The value is the mask after.
 abbrev pub remasked : Thread → Answer ℕ → Outcome (Answer ℕ) Thread
 remasked thread a =
     cond (isOK (a .code)) (done (a .value) (record { mask = a .value; priority = thread .priority; place = thread .place }))
@@ -191,7 +199,7 @@ remasked thread a =
 
 -- 7 mask.
 unfoldable pub mask : Setup → ℕ → ℕ → Thread → Outcome (Answer ℕ) Thread
-mask s enable disable thread = remasked thread (cpuMaskMod (thread .mask) enable disable (placed (thread .place)) (s .«pin_only»))
+mask s enable disable thread = remasked thread (withinCpus s (thread .mask) (masked s enable disable thread))
 
 -- The bit of a CPU.
 abbrev pub cpuBit : ℕ → ℕ
@@ -199,7 +207,7 @@ cpuBit c = cpuPinCompute c maskBits .value
 
 -- 8 pin: the mask rule, only that bit left.
 unfoldable pub pin : Setup → ℕ → Thread → Outcome (Answer ℕ) Thread
-pin s c thread = mask s (cpuBit c) (bitNot maskBits (cpuBit c)) thread
+pin s c thread = remasked thread (masked s (cpuBit c) (bitNot maskBits (cpuBit c)) thread)
 
 -- 9 priority: placed EBUSY. Sets the priority to A.
 unfoldable pub priority : ℤ → Thread → Outcome (Answer ℕ) Thread

@@ -17,6 +17,7 @@ ghost use Rattle.rules.specs.Rules.{
   answeredSays,
   cpuBit,
   cpuRecord,
+  withinCpus,
   remasked as Rules·remasked,
   mask as Rules·mask,
   pin as Rules·pin,
@@ -65,6 +66,22 @@ fn remasked(thread: Thread, a: CpuMaskResult) -> ThreadOut
     }
 }
 
+// Under pin-only a mask that the rule gives has its bit below n, or the current one stays.
+fn within_cpus(setup: Setup, current: u32, a: CpuMaskResult) -> CpuMaskResult
+    ensures { λ r. ⌜ maskSays r ≡ withinCpus setup current (maskSays a) ⌝ }
+{
+    if !setup.pin_only {
+        return a;
+    }
+    if !cpu_mask::bits_below(a.mask, setup.n) {
+        return CpuMaskResult {
+            mask: current,
+            error: Code::Einval,
+        };
+    }
+    a
+}
+
 // 7: bits of a thread's mask are enabled and disabled. Pin-only is asked here and not in the rule alone: it is the same for a whole log, and without
 // it the rule need not look at the new mask (docs/PERFORMANCE.md).
 fn mask(setup: Setup, enable: u32, disable: u32, thread: Thread) -> ThreadOut
@@ -73,10 +90,8 @@ fn mask(setup: Setup, enable: u32, disable: u32, thread: Thread) -> ThreadOut
     let place = thread.place;
     let running = rules::is_placed(place);
     if setup.pin_only {
-        return remasked(
-            thread,
-            cpu_mask::cpu_mask_mod(thread.mask, enable, disable, running, true),
-        );
+        let ruled = cpu_mask::cpu_mask_mod(thread.mask, enable, disable, running, true);
+        return remasked(thread, within_cpus(setup, thread.mask, ruled));
     }
     remasked(
         thread,
@@ -93,12 +108,22 @@ fn cpu_bit(c: CpuId) -> u32
     }
 }
 
-// 8: one bit of a thread's mask is left.
+// 8: one bit of a thread's mask is left. It is a CPU's of the machine, so it is not asked whether it is below n.
 fn pin(setup: Setup, c: CpuId, thread: Thread) -> ThreadOut
     ensures { λ r. ⌜ threadSays r ≡ appliedTo thread (Rules·pin setup (c .0) thread) ⌝ }
 {
     let bit = cpu_bit(c);
-    mask(setup, bit, !bit, thread)
+    let place = thread.place;
+    remasked(
+        thread,
+        cpu_mask::cpu_mask_mod(
+            thread.mask,
+            bit,
+            !bit,
+            rules::is_placed(place),
+            setup.pin_only,
+        ),
+    )
 }
 
 // 9: a thread's priority is set.

@@ -30,10 +30,11 @@ use Rattle.wellformed.specs.WellFormed.{
   idleOk,
   priorityOk,
   maskOk,
+  pinOk,
   wellFormed,
 }
 
--- The nine tests, in 01's order.
+-- The ten tests: 01's in its order, and the one of 02, request 5.
 abbrev clauses : Machine → List Bool
 clauses m =
     sizeOk m
@@ -45,6 +46,7 @@ clauses m =
     ∷ allBelow (idleOk m) cpuSlots
     ∷ allBelow (priorityOk m) threadCount
     ∷ allBelow (maskOk m) threadCount
+    ∷ allBelow (pinOk m) threadCount
     ∷ []
 
 -- The fresh machine of n CPUs, with narrow tags or with wide ones.
@@ -139,24 +141,45 @@ abbrev threadAt128 : Machine
 threadAt128 = withThread (record { mask = 1; priority = pos 128; place = Place.Nowhere }) (fresh 1 false)
 
 abbrev pinnedToTwo : Machine
-pinnedToTwo = withThread (record { mask = 3; priority = pos 0; place = Place.Nowhere }) (fresh 1 true)
+pinnedToTwo = withThread (record { mask = 3; priority = pos 0; place = Place.Nowhere }) (fresh 2 true)
+
+-- The font thread of a machine of four CPUs, pinned to CPU 9.
+abbrev pinnedTo9Of4 : Machine
+pinnedTo9Of4 = withThread (record { mask = 0x200; priority = pos 0; place = Place.Nowhere }) (fresh 4 true)
 
 abbrev broken : List Machine
-broken = fiveCpus ∷ unusedUp ∷ freeWithWord ∷ holdWithoutLock ∷ otherPriority ∷ placedAndNotRun ∷ idleAtZero ∷ threadAt128 ∷ pinnedToTwo ∷ []
+broken =
+    fiveCpus
+    ∷ unusedUp
+    ∷ freeWithWord
+    ∷ holdWithoutLock
+    ∷ otherPriority
+    ∷ placedAndNotRun
+    ∷ idleAtZero
+    ∷ threadAt128
+    ∷ pinnedToTwo
+    ∷ pinnedTo9Of4
+    ∷ []
 
-pub these-are-not : map wellFormed broken ≡ replicate 9 false
+pub these-are-not : map wellFormed broken ≡ replicate 10 false
 unfolding wellFormed allBelow sumBelow isPriority freshMachine threadMask validRecord ones bit
 these-are-not = refl
 
--- Machines that a wide tag makes possible, and that fail in one clause: more CPUs than it tells apart, a narrow word, and CPU 15's hold.
+-- The first bit past sixteen CPUs.
+abbrev pinnedTo16 : Machine
+pinnedTo16 = withThread (record { mask = 0x1_0000; priority = pos 0; place = Place.Nowhere }) (freshBy true 16 true)
+
+-- Machines that a wide tag makes possible, and that fail in one clause: more CPUs than it tells apart, a narrow word, CPU 15's hold, and a pin
+-- past CPU 15.
 abbrev brokenWide : List Machine
-brokenWide = seventeenCpus ∷ narrowWord ∷ forgets15 ∷ []
+brokenWide = seventeenCpus ∷ narrowWord ∷ forgets15 ∷ pinnedTo16 ∷ []
 
 pub nor-are-these :
     map clauses brokenWide
-    ≡ (false ∷ true ∷ true ∷ true ∷ true ∷ true ∷ true ∷ true ∷ true ∷ [])
-    ∷ (true ∷ true ∷ false ∷ true ∷ true ∷ true ∷ true ∷ true ∷ true ∷ [])
-    ∷ (true ∷ true ∷ true ∷ false ∷ true ∷ true ∷ true ∷ true ∷ true ∷ [])
+    ≡ (false ∷ true ∷ true ∷ true ∷ true ∷ true ∷ true ∷ true ∷ true ∷ true ∷ [])
+    ∷ (true ∷ true ∷ false ∷ true ∷ true ∷ true ∷ true ∷ true ∷ true ∷ true ∷ [])
+    ∷ (true ∷ true ∷ true ∷ false ∷ true ∷ true ∷ true ∷ true ∷ true ∷ true ∷ [])
+    ∷ (true ∷ true ∷ true ∷ true ∷ true ∷ true ∷ true ∷ true ∷ true ∷ false ∷ [])
     ∷ []
 unfolding allBelow sumBelow isPriority freshMachine threadMask validRecord ones bit
 nor-are-these = refl
@@ -164,15 +187,16 @@ nor-are-these = refl
 -- Each fails in its own clause, and in no other.
 pub each-clause-alone :
     map clauses broken
-    ≡ (false ∷ true ∷ true ∷ true ∷ true ∷ true ∷ true ∷ true ∷ true ∷ [])
-    ∷ (true ∷ false ∷ true ∷ true ∷ true ∷ true ∷ true ∷ true ∷ true ∷ [])
-    ∷ (true ∷ true ∷ false ∷ true ∷ true ∷ true ∷ true ∷ true ∷ true ∷ [])
-    ∷ (true ∷ true ∷ true ∷ false ∷ true ∷ true ∷ true ∷ true ∷ true ∷ [])
-    ∷ (true ∷ true ∷ true ∷ true ∷ false ∷ true ∷ true ∷ true ∷ true ∷ [])
-    ∷ (true ∷ true ∷ true ∷ true ∷ true ∷ false ∷ true ∷ true ∷ true ∷ [])
-    ∷ (true ∷ true ∷ true ∷ true ∷ true ∷ true ∷ false ∷ true ∷ true ∷ [])
-    ∷ (true ∷ true ∷ true ∷ true ∷ true ∷ true ∷ true ∷ false ∷ true ∷ [])
-    ∷ (true ∷ true ∷ true ∷ true ∷ true ∷ true ∷ true ∷ true ∷ false ∷ [])
+    ≡ (false ∷ true ∷ true ∷ true ∷ true ∷ true ∷ true ∷ true ∷ true ∷ true ∷ [])
+    ∷ (true ∷ false ∷ true ∷ true ∷ true ∷ true ∷ true ∷ true ∷ true ∷ true ∷ [])
+    ∷ (true ∷ true ∷ false ∷ true ∷ true ∷ true ∷ true ∷ true ∷ true ∷ true ∷ [])
+    ∷ (true ∷ true ∷ true ∷ false ∷ true ∷ true ∷ true ∷ true ∷ true ∷ true ∷ [])
+    ∷ (true ∷ true ∷ true ∷ true ∷ false ∷ true ∷ true ∷ true ∷ true ∷ true ∷ [])
+    ∷ (true ∷ true ∷ true ∷ true ∷ true ∷ false ∷ true ∷ true ∷ true ∷ true ∷ [])
+    ∷ (true ∷ true ∷ true ∷ true ∷ true ∷ true ∷ false ∷ true ∷ true ∷ true ∷ [])
+    ∷ (true ∷ true ∷ true ∷ true ∷ true ∷ true ∷ true ∷ false ∷ true ∷ true ∷ [])
+    ∷ (true ∷ true ∷ true ∷ true ∷ true ∷ true ∷ true ∷ true ∷ false ∷ true ∷ [])
+    ∷ (true ∷ true ∷ true ∷ true ∷ true ∷ true ∷ true ∷ true ∷ true ∷ false ∷ [])
     ∷ []
 unfolding allBelow sumBelow isPriority freshMachine threadMask validRecord ones bit
 each-clause-alone = refl

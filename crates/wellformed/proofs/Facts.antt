@@ -3,7 +3,7 @@
 use mathlib.Core.Path.{_≡_, refl, ap}
 use mathlib.Core.Logic.{_⊎_, inl, inr}
 use mathlib.Core.Bool.{true, false, _&&_, _||_, not}
-use Prim.Native.Nat.{ℕ, _≤_, _<_}
+use Prim.Native.Nat.{ℕ, _^_, _≤_, _<_}
 use native.Mathlib.Omega.{arith}
 use lib.Count.{ones}
 use lib.Dec.{eqb, leb, ltb}
@@ -43,6 +43,7 @@ use Rattle.wellformed.specs.WellFormed.{
   idleOk,
   priorityOk,
   maskOk,
+  pinOk,
   wellFormed,
 }
 
@@ -81,11 +82,16 @@ pub record Placed (s : Setup) (o : Current) (t c : ℕ) : Type 0 where
   pub below : c < s .n
   pub current : o ≡ Current.Thread (record { 0 = t })
 
+-- With pin-only a mask has one bit, and no bit from n on.
+pub record Pinned (s : Setup) (bits : ℕ) : Type 0 where
+  pub one : s .«pin_only» ≡ true → ones bits ≡ 1
+  pub below : s .«pin_only» ≡ true → bits < 2 ^ (s .n)
+
 -- The priority and the mask of a thread, whatever its place.
 pub record Fit (s : Setup) (p : ℤ) (bits : ℕ) : Type 0 where
   pub least : negℤ (pos 128) ≤ℤ p
   pub greatest : p ≤ℤ pos 127
-  pub mask : s .«pin_only» ≡ true → ones bits ≡ 1
+  pub mask : Pinned s bits
 
 -- The cell of thread t: it is the current thread of its place, and fit.
 pub record GoodThread (s : Setup) (current : ℕ → Current) (t : ℕ) (k : Thread) : Type 0 where
@@ -273,6 +279,14 @@ mask-back : (m : Machine) (t : ℕ) → (m .setup .«pin_only» ≡ true → one
 mask-back m t f =
     bool-ind (λ b. not b || eqb (ones (threadAt m t .mask)) 1 ≡ true) (m .setup .«pin_only») (λ pinned. eq-eqb _ _ (f pinned)) (λ _. refl)
 
+pin-says : (m : Machine) (t : ℕ) → pinOk m t ≡ true → m .setup .«pin_only» ≡ true → threadAt m t .mask < 2 ^ (m .setup .n)
+pin-says m t e pinned = ltb-true (threadAt m t .mask) (2 ^ (m .setup .n)) (rw pinned at e)
+
+pin-back : (m : Machine) (t : ℕ) → (m .setup .«pin_only» ≡ true → threadAt m t .mask < 2 ^ (m .setup .n)) → pinOk m t ≡ true
+pin-back m t f =
+    bool-ind (λ b. not b || ltb (threadAt m t .mask) (2 ^ (m .setup .n)) ≡ true) (m .setup .«pin_only») (λ pinned. lt-ltb _ _ (f pinned))
+    (λ _. refl)
+
 -- ---- the whole
 
 pub says : (m : Machine) → wellFormed m ≡ true → WellFormed m
@@ -293,7 +307,9 @@ says m e =
     let places = all-at (placeOk m) threadCount (and-left (allBelow (placeOk m) threadCount) _ places⁺) in
     let idles = all-at (idleOk m) cpuSlots (and-left (allBelow (idleOk m) cpuSlots) _ idles⁺) in
     let priorities = all-at (priorityOk m) threadCount (and-left (allBelow (priorityOk m) threadCount) _ priorities⁺) in
-    let masks = all-at (maskOk m) threadCount (and-right (allBelow (priorityOk m) threadCount) _ priorities⁺) in
+    let masks⁺ = and-right (allBelow (priorityOk m) threadCount) _ priorities⁺ in
+    let masks = all-at (maskOk m) threadCount (and-left (allBelow (maskOk m) threadCount) _ masks⁺) in
+    let pins = all-at (pinOk m) threadCount (and-right (allBelow (maskOk m) threadCount) _ masks⁺) in
     record {
       size = size-says (m .setup) size;
       seats = record {
@@ -307,7 +323,11 @@ says m e =
             let range = priority-says (threadAt m t .priority) (priorities t h) in
             record {
               place = λ c. place-says m t c (places t h);
-              fit = record { least = range .0; greatest = range .1; mask = mask-says m t (masks t h) };
+              fit = record {
+                least = range .0;
+                greatest = range .1;
+                mask = record { one = mask-says m t (masks t h); below = pin-says m t (pins t h) };
+              };
             };
       };
       locks = λ l h. record { free = free-says m (lockAt m l) (locks l h); held = λ t. held-says m (lockAt m l) t (locks l h) };
@@ -328,4 +348,5 @@ says-back m w =
     (both (all-from (idleOk m) cpuSlots (λ c h. idle-back m c (cpu c h)))
     (both (all-from (priorityOk m) threadCount
     (λ t h. says-priority (threadAt m t .priority) (thread t h .fit .least) (thread t h .fit .greatest)))
-    (all-from (maskOk m) threadCount (λ t h. mask-back m t (thread t h .fit .mask))))))))))
+    (both (all-from (maskOk m) threadCount (λ t h. mask-back m t (thread t h .fit .mask .one)))
+    (all-from (pinOk m) threadCount (λ t h. pin-back m t (thread t h .fit .mask .below)))))))))))

@@ -23,11 +23,17 @@ turn-one f k below x = all-more f k ∙ ap₂ (λ (p q : Bool). p && q) below (s
 pub turn-sum : (f : ℕ → ℕ) (k : ℕ) {sum a : ℕ} → sum ≡ sumBelow f k → a ≡ f k → sum + a ≡ sumBelow f (k + 1)
 turn-sum f k below x = ap₂ (λ (p q : ℕ). p + q) below x ∙ sym (sum-more f k)
 
--- One turn of a loop that asks three tests, one after the other.
+-- One turn of a loop that asks three tests, one after the other, and of one that asks four.
 pub turn :
     (f : ℕ → Bool) (k : ℕ) {ok a b c p q r : Bool}
     → allBelow f k ≡ ok → a ≡ p → b ≡ q → c ≡ r → (p && (q && r)) ≡ f k → allBelow f (k + 1) ≡ (((ok && a) && b) && c)
 turn f k below x y z tests = simp and-assoc (cc (all-more f k))
+
+pub turn-four :
+    (f : ℕ → Bool) (k : ℕ) {ok a b c d p q r s : Bool}
+    → allBelow f k ≡ ok → a ≡ p → b ≡ q → c ≡ r → d ≡ s → (p && (q && (r && s))) ≡ f k
+    → allBelow f (k + 1) ≡ ((((ok && a) && b) && c) && d)
+turn-four f k below w x y z tests = simp and-assoc (cc (all-more f k))
 
 -- A loop over two tests at once is a loop over each.
 all-both : (p q : ℕ → Bool) (k : ℕ) → allBelow (λ i. p i && q i) k ≡ (allBelow p k && allBelow q k)
@@ -43,6 +49,10 @@ all-both p q (suc k) = ap (λ t. t && (p k && q k)) (all-both p q k) ∙ swap (a
 
 pub all-three : (p q r : ℕ → Bool) (k : ℕ) → allBelow (λ i. p i && (q i && r i)) k ≡ (allBelow p k && (allBelow q k && allBelow r k))
 all-three p q r k = all-both p (λ i. q i && r i) k ∙ ap (λ t. allBelow p k && t) (all-both q r k)
+
+pub all-four : (p q r s : ℕ → Bool) (k : ℕ)
+    → allBelow (λ i. p i && (q i && (r i && s i))) k ≡ (allBelow p k && (allBelow q k && (allBelow r k && allBelow s k)))
+all-four p q r s k = all-both p (λ i. q i && (r i && s i)) k ∙ ap (λ t. allBelow p k && t) (all-three q r s k)
 
 -- Two tests that agree below k agree as loops.
 pub all-same : (p q : ℕ → Bool) (k : ℕ) → ((i : ℕ) → i < k → p i ≡ q i) → allBelow p k ≡ allBelow q k

@@ -1,5 +1,5 @@
--- 01, "The machine", "Well-formed": the clauses in 01's order, each a test. What a clause asks of one CPU, lock or thread stands in the crate
--- element_tests.
+-- 01, "The machine", "Well-formed": the clauses in 01's order, each a test, and the one of 02, request 5. What a clause asks of one CPU, lock or
+-- thread stands in the crate element_tests.
 use Prim.Native.Nat.{ℕ, zero, suc, _+_}
 use mathlib.Core.Bool.{Bool, _&&_}
 use mathlib.Core.List.{List}
@@ -11,7 +11,7 @@ use Rattle.machine.specs.declared.Cpu.{Cpu}
 use Rattle.machine.specs.declared.Thread.{Thread}
 use Rattle.machine.specs.declared.Setup.{Setup}
 use Rattle.machine.specs.declared.Machine.{Machine}
-use Rattle.element_tests.specs.Elements.{slotBy, lockBy, depthFor, currentBy, placeBy, idleBy, maskBy}
+use Rattle.element_tests.specs.Elements.{slotBy, lockBy, depthFor, currentBy, placeBy, idleBy, maskBy, pinBy}
 
 -- The sum of f over the numbers below k.
 unfoldable pub sumBelow : (ℕ → ℕ) → ℕ → ℕ
@@ -58,6 +58,10 @@ priorityOk m t = isPriority (threadAt m t .priority)
 abbrev pub maskOk : Machine → ℕ → Bool
 maskOk m t = maskBy (m .setup .«pin_only») (threadAt m t)
 
+-- The clause for the CPU that thread t of the machine is pinned to.
+abbrev pub pinOk : Machine → ℕ → Bool
+pinOk m t = pinBy (m .setup) (threadAt m t)
+
 -- Slot, current thread and idle priority of CPU c of these, as one test.
 abbrev pub cpuOk : Setup → List Cpu → List Thread → ℕ → Bool
 cpuOk s cpus threads c =
@@ -65,13 +69,14 @@ cpuOk s cpus threads c =
     && (currentBy threads c (getD cpus c noCpu .run) (getD cpus c noCpu .run .current)
     && idleBy (getD cpus c noCpu .run .priority) (getD cpus c noCpu .run .current))
 
--- Place, priority and mask of thread t of these, as one test.
+-- Place, priority, mask and pin of thread t of these, as one test.
 abbrev pub threadOk : Setup → List Cpu → List Thread → ℕ → Bool
 threadOk s cpus threads t =
     placeBy (s .n) cpus t (getD threads t noThread .place)
-    && (isPriority (getD threads t noThread .priority) && maskBy (s .«pin_only») (getD threads t noThread))
+    && (isPriority (getD threads t noThread .priority)
+    && (maskBy (s .«pin_only») (getD threads t noThread) && pinBy s (getD threads t noThread)))
 
--- Well-formed: the nine clauses, in 01's order.
+-- Well-formed: the nine clauses, in 01's order, and the one of 02, request 5.
 unfoldable pub wellFormed : Machine → Bool
 wellFormed m =
     sizeOk m
@@ -82,4 +87,5 @@ wellFormed m =
     && (allBelow (placeOk m) threadCount
     && (allBelow (idleOk m) cpuSlots
     && (allBelow (priorityOk m) threadCount
-    && allBelow (maskOk m) threadCount)))))))
+    && (allBelow (maskOk m) threadCount
+    && allBelow (pinOk m) threadCount))))))))

@@ -1,9 +1,9 @@
 // Well-formedness: the test that step and runner put to a machine before they work on it.
 //
-// New here: upstream has the single rules and no machine. 01, "The machine", "Well-formed": nine clauses. What a clause asks of one CPU, lock
-// or thread is a function of the crate element_tests; here are the loops. They are fewer than the clauses: one for what is asked of each CPU,
-// one for what is asked of each thread, and one for the locks, which adds up the depths on its way. Only that one is handed the machine,
-// which is 4 KB. proofs/Facts.antt says the clauses as facts, and that the test is true exactly where they hold.
+// New here: upstream has the single rules and no machine. 01, "The machine", "Well-formed": nine clauses; 02, request 5: a tenth. What a clause
+// asks of one CPU, lock or thread is a function of the crate element_tests; here are the loops. They are fewer than the clauses: one for what
+// is asked of each CPU, one for what is asked of each thread, and one for the locks, which adds up the depths on its way. Only that one is
+// handed the machine, which is 4 KB. proofs/Facts.antt says the clauses as facts, and that the test is true exactly where they hold.
 ghost use mathlib.Core.Path.{_≡_};
 ghost use mathlib.Core.Bool.{_&&_};
 ghost use lib.Dec.{eqb};
@@ -16,6 +16,7 @@ use element_tests::depth_for;
 use element_tests::idle_ok;
 use element_tests::lock_ok;
 use element_tests::mask_ok;
+use element_tests::pin_ok;
 use element_tests::place_ok;
 use element_tests::priority_ok;
 use element_tests::slot_ok;
@@ -78,7 +79,7 @@ fn cpus_ok(setup: Setup, cpus: [Cpu; CPU_SLOTS], threads: [Thread; THREADS]) -> 
     ok
 }
 
-// Place, priority and mask of every thread.
+// Place, priority, mask and pin of every thread.
 fn threads_ok(setup: Setup, cpus: [Cpu; CPU_SLOTS], threads: [Thread; THREADS]) -> bool
     ensures { λ r. ⌜ r ≡ allBelow (threadOk setup cpus threads) threadCount ⌝ }
 {
@@ -89,7 +90,8 @@ fn threads_ok(setup: Setup, cpus: [Cpu; CPU_SLOTS], threads: [Thread; THREADS]) 
         ok = ok
             & place_ok(setup, cpus, ThreadId(t), thread)
             & priority_ok(thread)
-            & mask_ok(setup, thread);
+            & mask_ok(setup, thread)
+            & pin_ok(setup, thread);
         t += 1;
     }
     ok

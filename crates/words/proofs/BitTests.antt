@@ -24,7 +24,7 @@ use native.Mathlib.Omega.{arith}
 use lib.Dec.{eqb, ltb, lit<}
 use lib.Pow.{pow-pos, pow-lt}
 use lib.Bits.{bitAnd, and-step, and-mask}
-use borrow.Author.Tests.{eq-eqb, ne-eqb, lt-ltb, le-ltb}
+use borrow.Author.Tests.{eq-eqb, eqb-true, ne-eqb, lt-ltb, le-ltb}
 use mir.Val.{boolByte}
 use Rattle.words.specs.Bit.{bit}
 use Rattle.words.proofs.Choice.{below-or, zero-or-one}
@@ -50,6 +50,11 @@ test-bit i m = ap (λ (x : ℕ). not (eqb x 0)) (and-pow i m) ∙ go (m / 2 ^ i 
     go : (x : ℕ) → (x ≡ 0) ⊎ (x ≡ 1) → not (eqb (x * 2 ^ i) 0) ≡ eqb x 1
     go x (inl p) = rw (p, zero-mul)
     go x (inr p) = rw (p, ne-eqb (1 * 2 ^ i) 0 (λ e. omega (arith, pow-pos i, one-mul (2 ^ i))))
+
+-- Of a number that has bit i, `m & 2 ^ i` is that bit.
+pub and-set : (i m : ℕ) → bit i m ≡ true → bitAnd m (2 ^ i) ≡ 2 ^ i
+unfolding bit
+and-set i m e = and-pow i m ∙ ap (λ (x : ℕ). x * 2 ^ i) (eqb-true (m / 2 ^ i % 2) 1 e) ∙ one-mul (2 ^ i)
 
 -- `1 << i`.
 pub shl-one : (w i : ℕ) → i < w → (1 * 2 ^ i) % 2 ^ w ≡ 2 ^ i

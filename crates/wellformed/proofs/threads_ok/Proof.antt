@@ -1,9 +1,9 @@
--- The loop's invariant: `ok` says whether the three tests hold below `t`. The measure is what is left. Assumes nothing.
+-- The loop's invariant: `ok` says whether the four tests hold below `t`. The measure is what is left. Assumes nothing.
 use Prim.Native.Nat.{_≤_, _-_}
 use mathlib.Core.Path.{_≡_, refl}
 use borrow.Author.Needs.{needs}
 use native.Mathlib.Omega.{arith}
-use Rattle.wellformed.proofs.Tests.{turn}
+use Rattle.wellformed.proofs.Tests.{turn-four}
 use Rattle.words.specs.Below.{allBelow}
 use Rattle.wellformed.specs.WellFormed.{threadOk}
 use Rattle.machine.specs.State.{threadCount}
@@ -41,6 +41,9 @@ priority-ok-requires c κs = search needs
 mask-ok-requires : tie.Need-mask-ok-requires Inv-loop μ-loop
 mask-ok-requires c κs = search needs
 
+pin-ok-requires : tie.Need-pin-ok-requires Inv-loop μ-loop
+pin-ok-requires c κs = search needs
+
 add-t : tie.Need-add-t Inv-loop μ-loop
 add-t c = search needs
 
@@ -49,8 +52,10 @@ loop-less c = search needs
 
 loop-again : tie.Need-loop-again Inv-loop μ-loop
 loop-again c =
-    let below = c .before .before .before .before .before .loop .inv .1 in
-    (search needs, turn _ _ below (c .before .before .place-ok .ensures) (c .before .priority-ok .ensures) (c .mask-ok .ensures) refl)
+    let place = c .before .before .before .place-ok in
+    let priority = c .before .before .priority-ok in
+    let below = c .before .before .before .before .before .before .loop .inv .1 in
+    (search needs, turn-four _ _ below (place .ensures) (priority .ensures) (c .before .mask-ok .ensures) (c .pin-ok .ensures) refl)
 
 returns : tie.Need-returns Inv-loop μ-loop
 returns c = let all : c .before .loop .t ≡ threadCount = omega arith in cc
@@ -69,6 +74,7 @@ threads-ok-spec =
     place-ok-requires
     priority-ok-requires
     mask-ok-requires
+    pin-ok-requires
     add-t
     loop-less
     loop-again
