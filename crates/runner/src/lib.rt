@@ -86,11 +86,14 @@ fn run_records(mut m: Machine, log: &[u8], out: &mut [u8]) -> Stepped
             Operation::OnCpu(asked) => {
                 let cpu = m.cpus[c.0 as usize];
                 let o = cpu_rules::on_cpu(setup, asked, c, t, cpu, m.threads[t.0 as usize]);
-                let cpu = o.cpu;
-                let thread = o.thread;
-                m.cpus[c.0 as usize] = cpu;
-                m.threads[t.0 as usize] = thread;
                 answer = o.answer;
+                let code = answer.code;
+                if error::is_ok(code) {
+                    let cpu = o.cpu;
+                    let thread = o.thread;
+                    m.cpus[c.0 as usize] = cpu;
+                    m.threads[t.0 as usize] = thread;
+                }
             }
             Operation::OnLock(asked) => {
                 let cpu = m.cpus[c.0 as usize];
