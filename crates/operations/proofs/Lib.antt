@@ -4,3 +4,4 @@ pub mod Turns
 pub mod Setups
 pub mod Refused
 pub mod Lengths
+pub mod Codes
