@@ -5,7 +5,6 @@
 // spinlock_validate. A refusal hands every cell back as it was.
 ghost use mathlib.Core.Path.{_≡_};
 ghost use mathlib.Core.Bool.{true};
-ghost use Prim.Native.Nat.{_-_};
 ghost use Rattle.words.specs.Tag.{wordOf};
 ghost use Rattle.error.specs.Codes.{EINVAL};
 ghost use Rattle.error.specs.Answer.{answer};
@@ -21,8 +20,6 @@ ghost use Rattle.rules.specs.Rules.{
   settled as lockSettled,
   withLock,
   onLock,
-  oneMore,
-  moved as Rules·moved,
   owner as Rules·owner,
 };
 use error::Code;
@@ -89,28 +86,6 @@ fn word_after(setup: Setup, c: CpuId, t: ThreadId, lock: Lock, next: SpinlockSta
     owner_word(setup, c, t)
 }
 
-// A hold after an accepted operation.
-fn moved(operation: Operation, hold: u32) -> u32
-    ensures { λ r. ⌜ r ≡ Rules·moved operation hold ⌝ }
-{
-    match operation {
-        Operation::Acquire { nested: _ } => one_more(hold),
-        Operation::Release => one_less(hold),
-    }
-}
-
-fn one_more(hold: u32) -> u32
-    ensures { λ r. ⌜ r ≡ oneMore hold ⌝ }
-{
-    if hold < 0xffff_ffff { hold + 1 } else { hold }
-}
-
-fn one_less(hold: u32) -> u32
-    ensures { λ r. ⌜ r ≡ hold - 1 ⌝ }
-{
-    if 0 < hold { hold - 1 } else { 0 }
-}
-
 // The CPU and the lock after the lock's rule: a refusal leaves them.
 fn settled(
     setup: Setup,
@@ -144,7 +119,7 @@ fn settled(
         },
         cpu: Cpu {
             run,
-            hold: moved(operation, cpu.hold),
+            hold: rules::moved(operation, cpu.hold),
         },
         lock: Lock {
             state: next,

@@ -2,10 +2,12 @@
 // and the results that their code gives. A rule never sees the machine, so it reads and writes nothing else.
 //
 // New here; the lock's rule goes by the crate spinlock, the owner word by spinlock_validate, masks by cpu_mask, interrupts by ipi. The code is in
-// crates by what it changes: cpu_rules, lock_rules, thread_rules and unwind_rules. A refusal hands every cell back as it was.
+// crates by what it changes: cpu_rules, lock_rules, thread_rules and unwind_rules; what is asked of single values, and how a hold moves, stands
+// here. A refusal hands every cell back as it was.
 ghost use mathlib.Core.Path.{_≡_};
+ghost use Prim.Native.Nat.{_-_};
 ghost use Rattle.machine.specs.State.{isCurrent};
-ghost use Rattle.rules.specs.Rules.{placed};
+ghost use Rattle.rules.specs.Rules.{placed, oneMore, moved as Rules·moved};
 use error::Code;
 use machine::Cpu;
 use machine::Current;
@@ -14,6 +16,7 @@ use machine::Place;
 use machine::Run;
 use machine::Thread;
 use machine::ThreadId;
+use spinlock::Operation;
 
 // The code and the value of a record.
 pub struct Answered {
@@ -78,4 +81,26 @@ pub fn is_current(current: Current, t: ThreadId) -> bool
         Current::None => false,
         Current::Thread(s) => s.0 == t.0,
     }
+}
+
+// A hold after an accepted operation on a lock.
+pub fn moved(operation: Operation, hold: u32) -> u32
+    ensures { λ r. ⌜ r ≡ Rules·moved operation hold ⌝ }
+{
+    match operation {
+        Operation::Acquire { nested: _ } => one_more(hold),
+        Operation::Release => one_less(hold),
+    }
+}
+
+fn one_more(hold: u32) -> u32
+    ensures { λ r. ⌜ r ≡ oneMore hold ⌝ }
+{
+    if hold < 0xffff_ffff { hold + 1 } else { hold }
+}
+
+fn one_less(hold: u32) -> u32
+    ensures { λ r. ⌜ r ≡ hold - 1 ⌝ }
+{
+    if 0 < hold { hold - 1 } else { 0 }
 }

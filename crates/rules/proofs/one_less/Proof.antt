@@ -1,7 +1,7 @@
 -- By the test. Assumes nothing.
 use borrow.Author.Needs.{needs}
-use Rattle.lock_rules.proofs.one_less.Statement.{statement}
-use Rattle.lock_rules.proofs.one_less.Tie as tie
+use Rattle.rules.proofs.one_less.Statement.{statement}
+use Rattle.rules.proofs.one_less.Tie as tie
 
 sub-result : tie.Need-sub-result
 sub-result c = search needs

@@ -1,8 +1,8 @@
 -- By the test. Assumes nothing.
 use borrow.Author.Needs.{needs}
 use borrow.Author.Tests.{lt-ltb, le-ltb}
-use Rattle.lock_rules.proofs.one_more.Statement.{statement}
-use Rattle.lock_rules.proofs.one_more.Tie as tie
+use Rattle.rules.proofs.one_more.Statement.{statement}
+use Rattle.rules.proofs.one_more.Tie as tie
 
 add-result : tie.Need-add-result
 add-result c = search needs

@@ -1,8 +1,8 @@
 -- By the operation. Assumes nothing.
 use borrow.Author.Needs.{needs}
 use mathlib.Core.Path.{_∙_}
-use Rattle.lock_rules.proofs.moved.Statement.{statement}
-use Rattle.lock_rules.proofs.moved.Tie as tie
+use Rattle.rules.proofs.moved.Statement.{statement}
+use Rattle.rules.proofs.moved.Tie as tie
 
 enum-told : tie.Need-enum-told
 enum-told c = search needs
