@@ -33,8 +33,9 @@
 #define HUBCRACKLE_OK 0
 #define HUBCRACKLE_EPERM (-1)       /* not the owner; thread not on that CPU */
 #define HUBCRACKLE_ENOMEM (-12)     /* `out` is too short for the value */
-#define HUBCRACKLE_EBUSY (-16)      /* held; nested 255 deep; CPU or thread occupied; CPU holds locks */
+#define HUBCRACKLE_EBUSY (-16)      /* held by another CPU; nested 255 deep; CPU or thread occupied; CPU holds locks */
 #define HUBCRACKLE_EINVAL (-22)     /* bad number, form, record or mask; CPU down or empty; thread running */
+#define HUBCRACKLE_EDEADLK (-45)    /* the asking CPU itself holds the lock */
 #define HUBCRACKLE_EALREADY (-114)  /* CPU already up, or already down */
 #define HUBCRACKLE_EOVERFLOW (-139) /* log over HUBCRACKLE_LOG_MAX bytes */
 
@@ -153,8 +154,10 @@ int32_t hubcrackle_validate_ipi_mask(uint32_t mask, uint32_t current_cpu, uint32
  *     11 owner     lock                    the lock's owner word; thread t has thread word 4 (t + 1), wide 16 (t + 1)
  *     12 unwind    CPU, thread             how deep the CPU's locks were held, added up; it frees them all
  *
- * A plain acquire, A = 0, takes a free lock, and is EBUSY on a held one, to its holder too. A nested one, A = 1, takes the holder one level
- * deeper, up to 255. There is no operation 5: it was the nested acquire once, and is of another form now, whatever its fields are.
+ * An acquire takes a free lock. To a plain one, A = 0, a held lock is EDEADLK if the asking CPU holds it itself, and EBUSY if another does: who spins
+ * on EBUSY waits for another CPU, and who is answered EDEADLK would wait for itself. Once it was EBUSY to both. A nested one, A = 1, takes the holder
+ * one level deeper, up to 255, and is EBUSY otherwise. There is no operation 5: it was the nested acquire once, and is of another form now, whatever
+ * its fields are. Outside a log hubcrackle_spin_lock_valid tells a kernel the same before it spins.
  *
  * Under pin-only operation 7 is EINVAL, and its value the current mask, if the new mask has not exactly one bit or if that bit is n or above, where
  * n is the number of CPUs. Once a log took any one bit, so that a thread could be pinned to a CPU that there is not.

@@ -2,8 +2,8 @@
 """Holds the lines of crates/single_calls to the documents 01 and 02, read a second time and independently of the code and its definitions.
 
 Usage: tests/single_calls.py [FILE], by default the stored output. Each line names a call, its arguments and its answer; the answer is worked
-out again here from 01's sections "Codes" and "Single calls" and from 02's width of an owner word's tag alone. Ends with status 1 at the first
-line that differs.
+out again here from 01's sections "Codes" and "Single calls" and from 02's width of an owner word's tag and its EDEADLK alone. Ends with status 1
+at the first line that differs.
 """
 import os
 import sys
@@ -62,6 +62,9 @@ def lock_record(name, a):
         if valid and mine:
             return ("EPERM " if name == "release_elsewhere" else "EBUSY ") + same
         name = name.removesuffix("_elsewhere")
+    if name == "acquire_again":
+        # A plain acquire on the CPU that holds the lock.
+        return "EDEADLK " + same if valid and owner is not None else lock_record("acquire", {**a, "nested": 0})
     if name in ("acquire", "release"):
         if not valid:
             return "EINVAL " + same

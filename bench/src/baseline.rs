@@ -10,6 +10,7 @@ const EPERM: i32 = -1;
 const ENOMEM: i32 = -12;
 const EBUSY: i32 = -16;
 const EINVAL: i32 = -22;
+const EDEADLK: i32 = -45;
 const EALREADY: i32 = -114;
 const EOVERFLOW: i32 = -139;
 
@@ -272,6 +273,8 @@ impl<const CPUS: usize> Machine<CPUS> {
             lock.take(thread, Self::word(thread, c));
         } else if nested && lock.word == Self::word(thread, c) && lock.depth < MAX_DEPTH {
             lock.depth += 1;
+        } else if !nested && Self::cpu_of(lock.word) == c {
+            return (EDEADLK, lock.depth);
         } else {
             return (EBUSY, lock.depth);
         }

@@ -144,6 +144,20 @@ impl<const CPUS: usize> Controller<CPUS> {
         self.filled(begins, iter::repeat(named("unwind", 0, 0, 0)))
     }
 
+    /// Every CPU comes up and runs a fresh thread, and each lock is taken by a CPU. Every other record is a plain acquire of one of these locks:
+    /// refused, to the CPU that holds it and to the others.
+    pub fn held(&self, random: &mut Random) -> Log {
+        let cpus = CPUS as u64;
+        let mut records = Vec::new();
+        for cpu in 0..cpus {
+            records.extend([named("up", cpu, 0, 0), named("put", cpu, cpu, 0)]);
+        }
+        for lock in 0..LOCKS {
+            records.push(packed(ACQUIRE, [(lock % cpus) as u8, 0, lock as u8], [0, 0]));
+        }
+        self.filled(records, iter::repeat_with(|| packed(ACQUIRE, [random.below(cpus) as u8, 0, random.below(LOCKS) as u8], [0, 0])))
+    }
+
     /// Every CPU comes up and runs a fresh thread. The other threads are more important; each may run on every CPU or, pinned, on one. Every other
     /// record asks which CPUs to interrupt for one of these.
     pub fn interrupts(&self, pinned: bool, random: &mut Random) -> Log {

@@ -124,6 +124,8 @@ fn rows<const CPUS: usize>(controller: &Controller<CPUS>, width: &str, goals: &G
         add(&format!("{name} only"), &only, RECORDS, goal);
     }
     add("unwind, running", &vec![controller.unwind_running(); LOGS], RECORDS, goals.unwind);
+    let held: Vec<_> = (0..LOGS).map(|_| controller.held(random)).collect();
+    add("acquire, held", &held, RECORDS, goals.only);
     let repinned: Vec<_> = (0..LOGS).map(|_| controller.repinned(random)).collect();
     add("mask, pin-only", &repinned, RECORDS, goals.only);
     for (name, pinned) in [("ipi, one CPU", true), ("ipi, all CPUs", false)] {

@@ -17,6 +17,7 @@ pub enum Difference {
     WidthFlag,
     InvalidRecord,
     ReleaseCheck,
+    SelfDeadlock,
     MaskFlags,
     RefusedMask,
     IpiNumbers,
@@ -27,7 +28,7 @@ pub enum Difference {
 }
 
 /// Where it is, what upstream does, what is done here, and why.
-pub const ROWS: [[&str; 4]; 15] = [
+pub const ROWS: [[&str; 4]; 16] = [
     [
         "spin_lock_compute_owner",
         "requires a CPU below 4 and a thread word that is nonzero and aligned",
@@ -56,6 +57,12 @@ pub const ROWS: [[&str; 4]; 15] = [
         "each `requires` becomes a refusal",
     ],
     ["release_check", "named in the header, in no file", "yes exactly if the thread owns the record, as is_owner", "01 supplies it"],
+    [
+        "a plain acquire in a log, and acquire_again",
+        "EBUSY on every held lock",
+        "EDEADLK on one that the asking CPU itself holds; acquire, by value and in place, does as upstream's",
+        "02 tells a self-deadlock from contention",
+    ],
     ["cpu_mask_mod, exported", "two flags of type `bool`", "EINVAL if a flag is neither 0 nor 1", "flags cross the C boundary as numbers"],
     [
         "cpu_mask_mod, exported",

@@ -3,9 +3,11 @@
 //! After each call on a lock the log asks for the lock's owner word, so that code, depth and owner are compared. The irq flag is in no answer: on a
 //! well-formed machine, as every step keeps it, it is set exactly while the lock is held. Upstream's flag is held to that.
 
+use upstream::error::{EBUSY, EDEADLK};
 use upstream::spinlock::{MAX_NEST_DEPTH, SpinlockState};
 use upstream::spinlock_validate::spin_lock_compute_owner;
 
+use crate::differences::Difference;
 use crate::ours::{self, OK};
 use crate::random::Random;
 use crate::tally::{Kind, Tally};
@@ -84,6 +86,13 @@ impl Log {
     }
 }
 
+/// What a log answers where upstream answers EBUSY to the thread that holds the lock.
+fn told_apart(tally: &mut Tally, code: i32) -> i32 {
+    assert_eq!(code, EBUSY, "upstream's plain acquire of a held lock is not EBUSY");
+    tally.meet(Difference::SelfDeadlock);
+    EDEADLK
+}
+
 /// One log against one record a lock; how often a nested acquire was asked for at the greatest depth.
 fn compare_log(tally: &mut Tally, random: &mut Random) -> u64 {
     let mut log = Log::opened();
@@ -98,8 +107,9 @@ fn compare_log(tally: &mut Tally, random: &mut Random) -> u64 {
         let state = &mut states[usize::from(lock)];
         match random.below(8) {
             0 => {
+                let own = state.is_owner(thread);
                 let code = state.acquire(thread);
-                log.add(ACQUIRE, cpu, 0, lock, code, state.nest_depth());
+                log.add(ACQUIRE, cpu, 0, lock, if own { told_apart(tally, code) } else { code }, state.nest_depth());
             }
             share if share <= releases => {
                 let code = state.release(thread);

@@ -13,8 +13,8 @@ use crate::tally::{Kind, Tally};
 
 const LINES: &str = include_str!("../../crates/single_calls/stdout");
 
-const CALLS: [&str; 10] =
-    ["new", "acquire", "release", "acquire_check", "release_check", "is_owner", "is_held", "is_free", "nest_depth", "owner_get"];
+const CALLS: [&str; 11] =
+    ["new", "acquire", "acquire_again", "release", "acquire_check", "release_check", "is_owner", "is_held", "is_free", "nest_depth", "owner_get"];
 
 /// The number after a word; none if the word is not there, or if "none" follows it.
 fn number(words: &[&str], name: &str) -> Option<u32> {
@@ -34,6 +34,7 @@ fn code_name(code: i32) -> &'static str {
     match code {
         error::OK => "OK",
         error::EBUSY => "EBUSY",
+        error::EDEADLK => "EDEADLK",
         error::EPERM => "EPERM",
         _ => panic!("no call on a lock record has the code {code}"),
     }
@@ -52,6 +53,11 @@ fn answered(call: &str, mut lock: SpinlockState, thread: u32, nested: bool) -> S
         "new" => shown(&SpinlockState::init()),
         "acquire" if nested => changed(lock.acquire_nested(thread), &lock),
         "acquire" => changed(lock.acquire(thread), &lock),
+        // Of an acquire again upstream's body says all but that the CPU itself holds the lock.
+        "acquire_again" => match lock.acquire(thread) {
+            error::EBUSY => changed(error::EDEADLK, &lock),
+            code => changed(code, &lock),
+        },
         "release" => changed(lock.release(thread), &lock),
         "acquire_check" => yes_no(lock.acquire_check(thread)),
         "is_owner" | "release_check" => yes_no(lock.is_owner(thread)),
@@ -65,7 +71,7 @@ fn answered(call: &str, mut lock: SpinlockState, thread: u32, nested: bool) -> S
 /// What a call on an invalid record is answered.
 fn refused(call: &str, lock: &SpinlockState) -> String {
     match call {
-        "acquire" | "release" => format!("EINVAL {}", shown(lock)),
+        "acquire" | "acquire_again" | "release" => format!("EINVAL {}", shown(lock)),
         "nest_depth" => "EINVAL depth 0".into(),
         "owner_get" => "EINVAL owner none".into(),
         _ => "EINVAL no".into(),
@@ -94,8 +100,10 @@ pub fn compare(tally: &mut Tally) {
             process::exit(1);
         }
         tally.count(kind);
-        if call == "release_check" {
-            tally.meet(Difference::ReleaseCheck);
+        match call {
+            "release_check" => tally.meet(Difference::ReleaseCheck),
+            "acquire_again" if expected.starts_with("EDEADLK") => tally.meet(Difference::SelfDeadlock),
+            _ => {}
         }
         seen.insert((call, nested));
     }

@@ -19,6 +19,7 @@ int printf(const char *format, ...);
 #define ENOMEM HUBCRACKLE_ENOMEM
 #define EBUSY HUBCRACKLE_EBUSY
 #define EINVAL HUBCRACKLE_EINVAL
+#define EDEADLK HUBCRACKLE_EDEADLK
 #define EALREADY HUBCRACKLE_EALREADY
 #define EOVERFLOW HUBCRACKLE_EOVERFLOW
 
@@ -311,8 +312,8 @@ static void logs(void)
 /* One operation acquires, plain or nested by A. */
 static void acquires(void)
 {
-    /* Plain, nested, and plain again, which is EBUSY to the holder; then the forms that are refused: A of 2, the former number of a nested
-     * acquire without and with A, and a nested acquire with B; a release shows that the lock is still two deep. */
+    /* Plain, nested, and plain again, which is EDEADLK for the CPU that holds the lock; then the forms that are refused: A of 2, the former number
+     * of a nested acquire without and with A, and a nested acquire with B; a release shows that the lock is still two deep. */
     static const head heads[] = { { 0x00 }, { 0x20, 3 }, { 0x40, 0, 7 }, { 0x40, 0, 7, 0, 1 }, { 0x40, 0, 7 }, { 0x40, 0, 7, 0, 2 },
                                   { 0x50, 0, 7 }, { 0x50, 0, 7, 0, 1 }, { 0x40, 0, 7, 0, 1 }, { 0x60, 0, 7 } };
     uint8_t log[10 * HUBCRACKLE_RECORD_BYTES];
@@ -324,13 +325,48 @@ static void acquires(void)
         "0000000000000000"
         "0000000000000001"
         "0000000000000002"
-        "fffffff000000002"
+        "ffffffd300000002"
         "ffffffea00000000"
         "ffffffea00000000"
         "ffffffea00000000"
         "ffffffea00000000"
         "0000000000000001",
         hubcrackle_run(0x20, log, sizeof log, out, 80));
+}
+
+/* The code of an answer that stands in the room. */
+static int32_t code_at(int record)
+{
+    const uint8_t *at = out + record * HUBCRACKLE_ANSWER_BYTES;
+
+    return (int32_t)((uint32_t)at[0] << 24 | (uint32_t)at[1] << 16 | (uint32_t)at[2] << 8 | at[3]);
+}
+
+/* A plain acquire of a held lock: the CPU that holds it would wait for itself, every other for that one. */
+static void deadlocks(void)
+{
+    /* Lock 7 is CPU 0's. CPU 4 asks for it without a thread and with one, and CPU 0 at depths 1 and 2: plain, nested, plain. */
+    static const head heads[] = { { 0x00 }, { 0x20, 3 }, { 0x40, 0, 7 }, { 0x04 }, { 0x44, 0, 7 }, { 0x24, 5 }, { 0x44, 0, 7 }, { 0x40, 0, 7 },
+                                  { 0x40, 0, 7, 0, 1 }, { 0x40, 0, 7 } };
+    uint8_t log[10 * HUBCRACKLE_RECORD_BYTES];
+
+    spread(log, heads, 10);
+    TRY(OK,
+        "0000000000000000"
+        "0000000000000000"
+        "0000000000000001"
+        "0000000000000000"
+        "ffffffea00000001"
+        "0000000000000000"
+        "fffffff000000001"
+        "ffffffd300000001"
+        "0000000000000002"
+        "ffffffd300000002",
+        hubcrackle_run(0x04, log, sizeof log, out, 80));
+    if (code_at(4) != EINVAL || code_at(6) != EBUSY || code_at(7) != EDEADLK || code_at(9) != EDEADLK) {
+        printf("calls.c:%d: WRONG: the names of the codes\n", __LINE__);
+        wrong++;
+    }
 }
 
 /* Locks that are given back by one record, because their job was stopped. */
@@ -514,6 +550,7 @@ int main(void)
     interrupts();
     logs();
     acquires();
+    deadlocks();
     unwinds();
     setups();
     wide_logs();

@@ -25,6 +25,7 @@ fn greatest(code: Code) -> u64
         Code::Enomem => 0xffff_fff4_ffff_ffff,
         Code::Ebusy => 0xffff_fff0_ffff_ffff,
         Code::Einval => 0xffff_ffea_ffff_ffff,
+        Code::Edeadlk => 0xffff_ffd3_ffff_ffff,
         Code::Ealready => 0xffff_ff8e_ffff_ffff,
         Code::Eoverflow => 0xffff_ff75_ffff_ffff,
     }

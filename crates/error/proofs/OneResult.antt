@@ -6,7 +6,7 @@ use lib.IntN.{ℤ, natAbs}
 use Rattle.error.specs.Codes.{numberOf}
 use Rattle.error.specs.Answer.{Answer, answer, yesNoSays}
 use Rattle.error.specs.declared.Code.{Code}
-use Rattle.error.specs.declared.Code.the-variants.{Ok, Eperm, Enomem, Ebusy, Einval, Ealready, Eoverflow}
+use Rattle.error.specs.declared.Code.the-variants.{Ok, Eperm, Enomem, Ebusy, Einval, Edeadlk, Ealready, Eoverflow}
 
 -- Results of which the same is said are equal.
 abbrev pub TellsApart : {R A : Type 0} → (R → A) → Type 0
@@ -28,7 +28,8 @@ caseOf z =
     (cond (eqb (natAbs z) 12) Enomem
     (cond (eqb (natAbs z) 16) Ebusy
     (cond (eqb (natAbs z) 22) Einval
-    (cond (eqb (natAbs z) 114) Ealready Eoverflow)))))
+    (cond (eqb (natAbs z) 45) Edeadlk
+    (cond (eqb (natAbs z) 114) Ealready Eoverflow))))))
 
 case-back : (c : Code) → caseOf (numberOf c) ≡ c
 unfolding caseOf
@@ -37,6 +38,7 @@ case-back Eperm = refl
 case-back Enomem = refl
 case-back Ebusy = refl
 case-back Einval = refl
+case-back Edeadlk = refl
 case-back Ealready = refl
 case-back Eoverflow = refl
 

@@ -1,9 +1,9 @@
--- 01, "Codes": the numbers that a call answers with.
+-- 01, "Codes", and 02, request 6: the numbers that a call answers with.
 use mathlib.Core.Bool.{Bool}
 use lib.Dec.{eqb}
 use lib.IntN.{ℤ, pos, negℤ, natAbs}
 use Rattle.error.specs.declared.Code.{Code}
-use Rattle.error.specs.declared.Code.the-variants.{Ok, Eperm, Enomem, Ebusy, Einval, Ealready, Eoverflow}
+use Rattle.error.specs.declared.Code.the-variants.{Ok, Eperm, Enomem, Ebusy, Einval, Edeadlk, Ealready, Eoverflow}
 
 -- Done.
 abbrev pub OK : ℤ
@@ -25,6 +25,10 @@ EBUSY = negℤ (pos 16)
 abbrev pub EINVAL : ℤ
 EINVAL = negℤ (pos 22)
 
+-- 02, request 6: held by the asking CPU itself.
+abbrev pub EDEADLK : ℤ
+EDEADLK = negℤ (pos 45)
+
 -- CPU already up, or already down.
 abbrev pub EALREADY : ℤ
 EALREADY = negℤ (pos 114)
@@ -40,6 +44,7 @@ numberOf Eperm = EPERM
 numberOf Enomem = ENOMEM
 numberOf Ebusy = EBUSY
 numberOf Einval = EINVAL
+numberOf Edeadlk = EDEADLK
 numberOf Ealready = EALREADY
 numberOf Eoverflow = EOVERFLOW
 

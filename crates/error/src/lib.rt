@@ -1,7 +1,7 @@
 // The codes that a call answers with.
 //
-// Upstream: src/error.rs, every constant with its number. New: `Code`, the seven codes of document 01's table as an enum, and
-// `number`, the one place where a case becomes a number. A caller can rely on the numbers: they are Zephyr's.
+// Upstream: src/error.rs, every constant with its number. New: `Code`, the seven codes of document 01's table and the eighth of document 02's
+// sixth request, EDEADLK, as an enum, and `number`, the one place where a case becomes a number. A caller can rely on the numbers: they are Zephyr's.
 ghost use mathlib.Core.Path.{_≡_};
 ghost use Rattle.error.specs.Codes.{numberOf, isOK};
 
@@ -39,13 +39,14 @@ pub const EOVERFLOW: i32 = -139;
 
 pub const ECANCELED: i32 = -140;
 
-// The codes that document 01 gives out, and no others.
+// The codes that are given out, and no others.
 pub enum Code {
     Ok,
     Eperm,
     Enomem,
     Ebusy,
     Einval,
+    Edeadlk,
     Ealready,
     Eoverflow,
 }
@@ -60,6 +61,7 @@ pub fn number(code: Code) -> i32
         Code::Enomem => ENOMEM,
         Code::Ebusy => EBUSY,
         Code::Einval => EINVAL,
+        Code::Edeadlk => EDEADLK,
         Code::Ealready => EALREADY,
         Code::Eoverflow => EOVERFLOW,
     }
@@ -75,6 +77,7 @@ pub fn is_ok(code: Code) -> bool
         Code::Enomem => false,
         Code::Ebusy => false,
         Code::Einval => false,
+        Code::Edeadlk => false,
         Code::Ealready => false,
         Code::Eoverflow => false,
     }

@@ -7,12 +7,12 @@ use Prim.Native.Nat.{ℕ, _<_}
 use Rattle.error.specs.Codes.{EINVAL, isOK}
 use Rattle.error.specs.Answer.{Answer}
 use Rattle.words.proofs.Choice.{bool-ind}
-use Rattle.spinlock.specs.Lock.{freeRecord, validRecord, held, operate}
+use Rattle.spinlock.specs.Lock.{freeRecord, validRecord, held, operate, acquireAgain}
 use Rattle.spinlock.specs.declared.Owner.{Owner}
 use Rattle.spinlock.specs.declared.SpinlockState.{SpinlockState}
 use Rattle.spinlock.specs.declared.Operation.{Operation as LockOperation}
 use Rattle.spinlock.proofs.Situations.{HeldBy}
-use Rattle.spinlock.proofs.Laws.{acquire-of-held}
+use Rattle.spinlock.proofs.Laws.{acquire-of-held, again-invalid, again-of-held}
 use Rattle.order.specs.Outcome.{Outcome, refuse, accept, answerOf}
 use Rattle.machine.specs.State.{lockCount, isThread, cpuAt, lockAt}
 use Rattle.machine.specs.declared.CpuId.{CpuId}
@@ -23,7 +23,7 @@ use Rattle.machine.specs.declared.Lock.{Lock}
 use Rattle.machine.specs.declared.Machine.{Machine}
 use Rattle.record.specs.Record.{request, requestOf}
 use Rattle.record.specs.declared.Operation.{Operation}
-use Rattle.rules.specs.Rules.{refused, elsewhere, ruled, settled, lockBy, lockOp}
+use Rattle.rules.specs.Rules.{refused, elsewhere, again, ruled, settled, lockBy, lockOp}
 use Rattle.wellformed.specs.WellFormed.{wellFormed}
 use Rattle.wellformed.proofs.Facts.{Runs, WellFormed, says}
 use Rattle.operations.specs.Operations.{withHold}
@@ -68,11 +68,25 @@ record-refuses s tid elsewhere taken =
     bool-ind (λ valid. validRecord s ≡ valid → isOK (operate (LockOperation.Acquire false) s tid elsewhere .code) ≡ false) (validRecord s)
     (λ _ valid. ap (λ (a : Answer SpinlockState). isOK (a .code)) (acquire-of-held s tid elsewhere valid taken)) (λ _ bad. rw bad) refl
 
+again-refuses : (s : SpinlockState) (tid : ℕ) → held (s .owner) ≡ true → isOK (acquireAgain s tid .code) ≡ false
+again-refuses s tid taken =
+    bool-ind (λ valid. validRecord s ≡ valid → isOK (acquireAgain s tid .code) ≡ false) (validRecord s)
+    (λ _ valid. ap (λ (a : Answer SpinlockState). isOK (a .code)) (again-of-held s tid valid taken))
+    (λ _ bad. ap (λ (a : Answer SpinlockState). isOK (a .code)) (again-invalid s tid bad)) refl
+
+-- Again or not.
+ruled-refuses : (s : Setup) (c t : ℕ) (k : Lock) → held (k .state .owner) ≡ true
+    → isOK (ruled s (LockOperation.Acquire false) c t k .code) ≡ false
+ruled-refuses s c t k taken =
+    let plain = operate (LockOperation.Acquire false) (k .state) t (elsewhere s c t k) in
+    bool-ind (λ b. isOK (cond b (acquireAgain (k .state) t) plain .code) ≡ false) (again s (LockOperation.Acquire false) c (k .word))
+    (λ _. again-refuses (k .state) t taken) (λ _. record-refuses (k .state) t (elsewhere s c t k) taken)
+
 rule-refuses : (s : Setup) (c : ℕ) (current : Current) (k : Lock) → held (k .state .owner) ≡ true
     → isOK (answerOf (lockBy s (LockOperation.Acquire false) c current k) .code) ≡ false
 rule-refuses s c Current.None k taken = refl
 rule-refuses s c (Current.Thread t) k taken =
-    let no-ok = record-refuses (k .state) (t .0) (elsewhere s c (t .0) k) taken in
+    let no-ok = ruled-refuses s c (t .0) k taken in
     let settles = settled s c (t .0) k (ruled s (LockOperation.Acquire false) c (t .0) k) in
     bool-ind (λ exists. isOK (answerOf (cond exists settles (refused EINVAL (k .state .«nest_count»))) .code) ≡ false) (isThread (t .0))
     (λ _. rw no-ok no-ok) (λ _. refl)

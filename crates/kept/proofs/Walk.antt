@@ -1,26 +1,26 @@
 -- What the lock's rule accepts, walked once for whatever is to be shown of the lock that it hands back. By the lock's situation to the CPU's
 -- current thread a free lock is taken, an own one goes a level up or down, and every other call is refused: an own lock that was taken on
--- another CPU is foreign. Assumes nothing.
+-- another CPU is foreign, and a held lock is no plain acquire's, again or not. Assumes nothing.
 use mathlib.Core.Path.{_≡_, refl}
-use mathlib.Core.Bool.{Bool, true, false, cond}
+use mathlib.Core.Bool.{Bool, true, false, cond, false≢true}
 use Prim.Native.Nat.{ℕ, _<_}
 use Rattle.error.specs.Codes.{EINVAL, isOK}
 use Rattle.error.specs.Answer.{Answer, answer}
 use Rattle.words.proofs.Choice.{bool-ind}
-use Rattle.spinlock.specs.Table.{codeOf}
-use Rattle.spinlock.specs.Lock.{maxNestDepth, freeRecord, takenBy, deeper, shallower, validRecord, after}
+use Rattle.spinlock.specs.Table.{codeOf, codeAgain}
+use Rattle.spinlock.specs.Lock.{maxNestDepth, freeRecord, takenBy, deeper, shallower, validRecord, after, operate, acquireAgain}
 use Rattle.spinlock.specs.declared.SpinlockState.{SpinlockState}
 use Rattle.spinlock.specs.declared.Operation.{Operation}
 use Rattle.spinlock.specs.declared.Situation.{Situation}
 use Rattle.spinlock.proofs.Situations.{HeldBy, View, free, own, full, foreign, view}
-use Rattle.spinlock.proofs.Laws.{operated}
+use Rattle.spinlock.proofs.Laws.{operated, again-by}
 use Rattle.order.specs.Outcome.{Outcome, refuse, accept}
 use Rattle.machine.specs.State.{isThread}
 use Rattle.machine.specs.declared.Current.{Current}
 use Rattle.machine.specs.declared.Setup.{Setup}
 use Rattle.machine.specs.declared.Lock.{Lock}
 use Rattle.machine.specs.declared.Run.{Run}
-use Rattle.rules.specs.Rules.{refused, done, elsewhere, ruled, wordAfter, settled, lockBy, lockOp}
+use Rattle.rules.specs.Rules.{refused, done, elsewhere, again, ruled, wordAfter, settled, lockBy, lockOp}
 use Rattle.kept.proofs.Accepted.{Accepting}
 
 -- The lock that an accepted operation leaves with this record.
@@ -49,10 +49,26 @@ module _ (s : Setup) (c t : ℕ) (lock : Lock) (valid : validRecord (lock .state
   by-view Operation.Release (full mine _) = ways .released mine
   by-view Operation.Release (foreign _ _) = tt
 
+  again-by-view : {sit : Situation} → View (lock .state) t sit
+      → Accepting (Q (Operation.Acquire false)) (settled s c t lock (answer (codeAgain sit) (after (Operation.Acquire false) sit (lock .state) t)))
+  unfolding codeAgain after
+  again-by-view (free e) = ways .taken false e
+  again-by-view (own _ _) = tt
+  again-by-view (full _ _) = tt
+  again-by-view (foreign _ _) = tt
+
+  -- A plain acquire alone is one again.
+  by-again : (op : Operation) → again s op c (lock .word) ≡ true → Accepting (Q op) (settled s c t lock (acquireAgain (lock .state) t))
+  by-again (Operation.Acquire true) e = absurd (false≢true e)
+  by-again (Operation.Acquire false) e = rw (again-by (lock .state) t valid refl) (again-by-view (view (lock .state) t false valid))
+  by-again Operation.Release e = absurd (false≢true e)
+
   by-rule : (op : Operation) → Accepting (Q op) (settled s c t lock (ruled s op c t lock))
   by-rule op =
       let away = elsewhere s c t lock in
-      rw (operated op (lock .state) t away valid refl) (by-view op (view (lock .state) t away valid))
+      let rule = operate op (lock .state) t away in
+      bool-ind (λ b. Accepting (Q op) (settled s c t lock (cond b (acquireAgain (lock .state) t) rule))) (again s op c (lock .word)) (by-again op)
+      (λ _. rw (operated op (lock .state) t away valid refl) (by-view op (view (lock .state) t away valid)))
 
 -- A refusal has another code than OK; what is accepted has OK, and Q.
 abbrev pub Told : (Lock → Type 0) → Outcome (Answer ℕ) Lock → Type 0

@@ -6,7 +6,7 @@ use lib.ListN.{replicate}
 use Rattle.words.specs.Below.{allBelow}
 use Rattle.words.specs.Bit.{bit}
 use Rattle.words.specs.Signed.{fromSigned}
-use Rattle.spinlock_validate.specs.Owner.{spinLockComputeOwner, spinUnlockValid}
+use Rattle.spinlock_validate.specs.Owner.{spinLockComputeOwner, spinLockValid, spinUnlockValid}
 use Rattle.spinlock.specs.Table.{codeOf}
 use Rattle.spinlock.specs.Lock.{operate, after, validRecord, situationAt}
 use Rattle.spinlock.specs.declared.Owner.the-variants.{Thread}
@@ -27,14 +27,16 @@ use Rattle.laws.specs.Accident.{comes, stopped, following, accident, acc
 
 -- What the program writes for the setup byte and the log.
 pub answers : respondRoom (0x20 ∷ accident) (replicate 80 0) ≡ accidentAnswers
-unfolding opened flagged zeros busy comes stopped following accident accidentAnswers bit spinLockComputeOwner spinUnlockValid codeOf after operate validRecord situationAt threadMask
-    freshMachine fresh setup fieldsOf rowOf fits requestOf answerBytes written fromSigned up put take lockOp unwind answered next stateAt roomAt
-    runCode ran ranRoom codeFromSetup roomFromSetup inputCode respondRoom allBelow sumBelow isPriority wellFormed every collect spread
+unfolding opened flagged zeros busy comes stopped following accident accidentAnswers bit spinLockComputeOwner spinLockValid spinUnlockValid codeOf
+    after operate validRecord situationAt threadMask freshMachine fresh setup fieldsOf rowOf fits requestOf answerBytes written fromSigned up put
+    take lockOp unwind answered next stateAt roomAt runCode ran ranRoom codeFromSetup roomFromSetup inputCode respondRoom allBelow sumBelow
+    isPriority wellFormed every collect spread
 answers = refl
 
 -- Lock 7 is the next job's, at depth 1, and CPU 0 holds one level.
 pub ends : (lockAt accidentEnd 7 ≡ record { state = record { owner = Thread 4; «nest_count» = 1; «irq_saved» = true }; word = 20 })
     × (cpuAt accidentEnd 0 .hold ≡ 1)
-unfolding opened flagged comes stopped following accident accidentEnd bit spinLockComputeOwner spinUnlockValid codeOf after operate validRecord situationAt threadMask
-    freshMachine fresh setup fieldsOf rowOf fits requestOf up put take lockOp unwind answered next stateAt isPriority every collect spread
+unfolding opened flagged comes stopped following accident accidentEnd bit spinLockComputeOwner spinLockValid spinUnlockValid codeOf after operate
+    validRecord situationAt threadMask freshMachine fresh setup fieldsOf rowOf fits requestOf up put take lockOp unwind answered next stateAt
+    isPriority every collect spread
 ends = (refl, refl)

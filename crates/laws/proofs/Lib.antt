@@ -12,3 +12,4 @@ pub mod Accident
 pub mod FormerRows
 pub mod OneAcquire
 pub mod PinnedThread
+pub mod SelfDeadlock

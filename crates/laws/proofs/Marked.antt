@@ -4,8 +4,8 @@ use lib.Count.{ones, onesIn}
 use Rattle.words.specs.Below.{allBelow}
 use Rattle.words.specs.Bit.{bit, bitsOf}
 use Rattle.spinlock_validate.specs.Owner.{spinLockComputeOwner, spinLockDecodeOwner, spinLockValid, spinUnlockValid}
-use Rattle.spinlock.specs.Table.{codeOf}
-use Rattle.spinlock.specs.Lock.{operate, after, validRecord, situationAt}
+use Rattle.spinlock.specs.Table.{codeOf, codeAgain}
+use Rattle.spinlock.specs.Lock.{operate, acquireAgain, after, validRecord, situationAt}
 use Rattle.cpu_mask.specs.Mask.{cpuMaskMod, cpuPinCompute}
 use Rattle.ipi.specs.Ipi.{computeIpiMask, gets}
 use Rattle.words.specs.Signed.{fromSigned}
@@ -37,20 +37,23 @@ use Rattle.laws.specs.Marked.{
   wideLog,
   wideAnswers,
   wideEnd,
+  twiceLog,
+  refusedWith,
+  twiceAnswers,
   wideOf,
   wideTable,
 }
 
 pub marked : Holds table
 unfolding Holds table at cpu cpus all ones onesIn bit bitsOf spinLockComputeOwner spinLockDecodeOwner spinLockValid codeOf after operate validRecord
-    situationAt cpuMaskMod cpuPinCompute computeIpiMask gets opened flagged workedLog zeros busy workedAnswers workedEnd threadMask freshMachine fresh setup
-    fieldsOf rowOf fits requestOf answerBytes written fromSigned up put take lockOp owner answered next stateAt roomAt runCode ran ranRoom
-    codeFromSetup roomFromSetup inputCode respondRoom allBelow sumBelow isPriority wellFormed spinUnlockValid
+    situationAt cpuMaskMod cpuPinCompute computeIpiMask gets opened flagged workedLog zeros busy workedAnswers workedEnd threadMask freshMachine
+    fresh setup fieldsOf rowOf fits requestOf answerBytes written fromSigned up put take lockOp owner answered next stateAt roomAt runCode ran
+    ranRoom codeFromSetup roomFromSetup inputCode respondRoom allBelow sumBelow isPriority wellFormed spinUnlockValid
 marked = (eq, (eq, (eq, (eq, (eq, (eq, (eq, (eq, (eq, (eq, (eq, (eq, (eq, (eq, (eq, (eq, (eq, (eq, (eq, (eq, tt))))))))))))))))))))
 
 pub wide-marked : Holds wideTable
-unfolding Holds wideTable bit spinLockComputeOwner spinLockDecodeOwner codeOf after operate validRecord situationAt opened flagged zeros busy wideLog
-    wideAnswers wideEnd wideOf threadMask freshMachine notMade fresh setup fieldsOf rowOf fits requestOf answerBytes written fromSigned up put take
-    lockOp owner answered next stateAt roomAt runCode ran ranRoom codeFromSetup roomFromSetup inputCode respondRoom allBelow sumBelow isPriority
-    wellFormed spinUnlockValid
-wide-marked = (eq, (eq, (eq, (eq, (eq, (eq, (eq, (eq, (eq, (eq, (eq, (eq, (eq, (eq, (eq, (eq, tt))))))))))))))))
+unfolding Holds wideTable bit spinLockComputeOwner spinLockDecodeOwner spinLockValid codeOf codeAgain after operate acquireAgain validRecord
+    situationAt opened flagged zeros busy wideLog wideAnswers wideEnd twiceLog refusedWith twiceAnswers wideOf threadMask freshMachine notMade fresh
+    setup fieldsOf rowOf fits requestOf answerBytes written fromSigned up put take lockOp owner answered next stateAt roomAt runCode ran ranRoom
+    codeFromSetup roomFromSetup inputCode respondRoom allBelow sumBelow isPriority wellFormed spinUnlockValid
+wide-marked = (eq, (eq, (eq, (eq, (eq, (eq, (eq, (eq, (eq, (eq, (eq, (eq, (eq, (eq, (eq, (eq, (eq, tt)))))))))))))))))

@@ -1,6 +1,6 @@
 -- 01, "Marked examples": one table, one claim. Each row is an example's number, what a rule gives, and what 01 says that it gives; the claim
 -- is that the two are equal in every row. It is closed by computing (proofs/Marked.antt). A second table, ours, goes on with the wide machine of
--- 02, request 4.
+-- 02, request 4, and with a self-deadlock there, request 6.
 use mathlib.Core.Path.{_≡_}
 use mathlib.Core.Bool.{Bool, true, false}
 use mathlib.Core.List.{List, [], _∷_, _++_}
@@ -113,6 +113,22 @@ wideAnswers = zeros 0 ++ (zeros 0 ++ (zeros 1 ++ (zeros 2 ++ (busy ++ (zeros 79 
 unfoldable pub wideEnd : Machine
 wideEnd = stateAt (setup 0x04 .value) wideLog 7
 
+-- There thread 3 on CPU 0 takes lock 7. It is asked for by CPU 4, whose number is that of CPU 0 in the two low bits, and then by CPU 0 itself, plain
+-- and nested.
+unfoldable pub twiceLog : List ℕ
+twiceLog =
+    (opened 0x00 0 0 ++ (opened 0x20 3 0 ++ (opened 0x04 0 0 ++ (opened 0x24 5 0 ++ opened 0x40 0 7))))
+    ++ (opened 0x44 0 7 ++ (opened 0x40 0 7 ++ flagged 0x40 0 7))
+
+-- A refusal with the last byte of its code, and a value.
+unfoldable pub refusedWith : ℕ → ℕ → List ℕ
+refusedWith code value = 0xff ∷ 0xff ∷ 0xff ∷ code ∷ 0 ∷ 0 ∷ 0 ∷ value ∷ []
+
+-- EBUSY for CPU 4, EDEADLK for CPU 0, each with the depth; nested it goes to depth 2.
+unfoldable pub twiceAnswers : List ℕ
+twiceAnswers =
+    zeros 0 ++ (zeros 0 ++ (zeros 0 ++ (zeros 0 ++ (zeros 1 ++ (refusedWith 0xf0 1 ++ (refusedWith 0xd3 1 ++ zeros 2))))))
+
 -- The setup of a wide machine of n CPUs.
 unfoldable pub wideOf : ℕ → Setup
 wideOf n = record { n = n; «pin_only» = false; wide = true }
@@ -136,4 +152,5 @@ wideTable =
     ∷ M 15 (respondRoom (0x04 ∷ wideLog) (replicate 56 0)) wideAnswers
     ∷ M 15 (lockAt wideEnd 7) (record { state = record { owner = Thread 3; «nest_count» = 1; «irq_saved» = true }; word = 79 })
     ∷ M 15 (cpuAt wideEnd 15 .hold) 1
+    ∷ M 16 (respondRoom (0x04 ∷ twiceLog) (replicate 64 0)) twiceAnswers
     ∷ []

@@ -1,4 +1,4 @@
--- The answer bytes of a run tell which records were accepted. Every answer has one of the seven codes of 01 (`answered-coded` of operations); so
+-- The answer bytes of a run tell which records were accepted. Every answer has one of the eight codes (`answered-coded` of operations); so
 -- its code fits the four bytes that it is written in, and is read back from them. Assumes nothing.
 use mathlib.Core.Path.{_≡_, refl, ap, _∙_}
 use mathlib.Core.Bool.{true}
@@ -20,7 +20,7 @@ use Rattle.runner.specs.Run.{ran, ranRoom}
 use Rattle.rearranged.proofs.Bytes.{place-of-run}
 use Rattle.ledger.specs.Ledger.{acceptedAt}
 
--- One of the seven codes.
+-- One of the eight codes.
 pub record IsCode (number : ℤ) : Type 0 where
   pub code : Code
   pub is : numberOf code ≡ number
@@ -38,18 +38,19 @@ each-is-code =
       already = is-code Code.Ealready;
     }
 
--- The seven fit in 32 bits, two's complement.
+-- The eight fit in 32 bits, two's complement.
 number-fits : (c : Code) → SignedFits 31 (numberOf c)
 number-fits Code.Ok = lit< tt
 number-fits Code.Eperm = lit< tt
 number-fits Code.Enomem = lit< tt
 number-fits Code.Ebusy = lit< tt
 number-fits Code.Einval = lit< tt
+number-fits Code.Edeadlk = lit< tt
 number-fits Code.Ealready = lit< tt
 number-fits Code.Eoverflow = lit< tt
 
 answered-fits : (m : Machine) (bytes : List ℕ) → SignedFits 31 (answered m bytes .code)
-answered-fits m bytes = let c = answered-coded IsCode each-is-code m bytes in rw (c .is) at (number-fits (c .code))
+answered-fits m bytes = let c = answered-coded IsCode each-is-code m bytes (λ _. is-code Code.Edeadlk) in rw (c .is) at (number-fits (c .code))
 
 -- After a run, the answer bytes say of each record whether its answer was OK.
 pub bytes-tell : (m : Machine) (log room : List ℕ) → isOK (ran m log (length room) .code) ≡ true → (k : ℕ) → k < length log / 12

@@ -2,7 +2,8 @@
 // it names to their new values and an answer. A rule never sees the machine, so it reads and writes nothing else.
 //
 // New here; the definitions are in the crate rules, the lock's rule goes by the crate spinlock, the owner word by the definitions of
-// spinlock_validate. A refusal hands every cell back as it was.
+// spinlock_validate. A refusal hands every cell back as it was. Document 02, request 6: a plain acquire of a lock that the asking CPU itself holds
+// is EDEADLK (rules::is_again).
 ghost use mathlib.Core.Path.{_≡_};
 ghost use mathlib.Core.Bool.{true};
 ghost use Rattle.words.specs.Tag.{wordOf};
@@ -66,6 +67,9 @@ fn ruled(setup: Setup, operation: Operation, c: CpuId, t: ThreadId, lock: Lock) 
     ensures { λ r. ⌜ changedSays r ≡ Rules·ruled setup operation (c .0) (t .0) lock ⌝ }
 {
     let state = lock.state;
+    if rules::is_again(setup, operation, c, lock.word) {
+        return state.acquire_again(t.0);
+    }
     state.operate(operation, t.0, elsewhere(setup, c, t, lock))
 }
 

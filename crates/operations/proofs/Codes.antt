@@ -1,16 +1,16 @@
 -- Which codes an operation answers with, walked once for whatever is to be shown of them: by the operation, and within a rule by its tests.
 -- Assumes nothing.
-use mathlib.Core.Path.{_≡_, sym, subst}
+use mathlib.Core.Path.{_≡_, refl, sym, ap, subst}
 use mathlib.Core.Bool.{Bool, true, false, _&&_, _||_, not, cond}
 use mathlib.Core.List.{List, []}
 use Prim.Native.Nat.{ℕ}
 use lib.Dec.{eqb}
 use lib.IntN.{ℤ}
-use Rattle.error.specs.Codes.{OK, EPERM, EBUSY, EINVAL, EALREADY, isOK}
+use Rattle.error.specs.Codes.{OK, EPERM, EBUSY, EINVAL, EDEADLK, EALREADY, isOK}
 use Rattle.error.specs.Answer.{Answer}
 use Rattle.words.specs.Bit.{bit, bitNot}
-use Rattle.spinlock.specs.Table.{codeOf}
-use Rattle.spinlock.specs.Lock.{validRecord, situationAt, operate}
+use Rattle.spinlock.specs.Table.{codeOf, codeAgain}
+use Rattle.spinlock.specs.Lock.{validRecord, situationAt, operate, acquireAgain}
 use Rattle.spinlock.specs.declared.SpinlockState.{SpinlockState}
 use Rattle.spinlock.specs.declared.Operation.{Operation as LockOperation}
 use Rattle.spinlock.specs.declared.Situation.{Situation}
@@ -37,7 +37,7 @@ use Rattle.operations.specs.Asked.{answered}
 use Rattle.operations.proofs.Turns.{ipi-says}
 use Rattle.operations.proofs.Unwound.{unwindAt, unwind-fed}
 
--- P holds of each code that an operation may answer with.
+-- P holds of each code that an operation may answer with. EDEADLK is a plain acquire's alone.
 pub record EachCode (P : ℤ → Type 0) : Type 0 where
   pub ok : P OK
   pub perm : P EPERM
@@ -100,17 +100,37 @@ module _ (P : ℤ → Type 0) (each : EachCode P) where
   unfolding operate
   operate-coded op s t elsewhere = either Coded (validRecord s) _ _ (table-code op (situationAt s t elsewhere)) (each .invalid)
 
-  lock-coded : (s : Setup) (op : LockOperation) (c : ℕ) (r : Run) (k : Lock) → CodedOutcome (Rules.lockOp s op c r k)
+  again-code : P EDEADLK → (sit : Situation) → P (codeAgain sit)
+  unfolding codeAgain
+  again-code dead Situation.Free = each .ok
+  again-code dead Situation.Own = dead
+  again-code dead Situation.Full = dead
+  again-code dead Situation.Foreign = dead
+
+  again-coded : P EDEADLK → (s : SpinlockState) (t : ℕ) → Coded (acquireAgain s t)
+  unfolding acquireAgain
+  again-coded dead s t = either Coded (validRecord s) _ _ (again-code dead (situationAt s t false)) (each .invalid)
+
+  -- It holds of EDEADLK, if the operation is a plain acquire.
+  abbrev IfPlain : LockOperation → Type 0
+  IfPlain op = op ≡ LockOperation.Acquire false → P EDEADLK
+
+  ruled-coded : (s : Setup) (op : LockOperation) (c t : ℕ) (k : Lock) → IfPlain op → Coded (Rules.ruled s op c t k)
+  ruled-coded s (LockOperation.Acquire true) c t k dead = operate-coded (LockOperation.Acquire true) (k .state) t (Rules.elsewhere s c t k)
+  ruled-coded s (LockOperation.Acquire false) c t k dead =
+      either Coded (Rules.again s (LockOperation.Acquire false) c (k .word)) _ _ (again-coded (dead refl) (k .state) t)
+      (operate-coded (LockOperation.Acquire false) (k .state) t (Rules.elsewhere s c t k))
+  ruled-coded s LockOperation.Release c t k dead = operate-coded LockOperation.Release (k .state) t (Rules.elsewhere s c t k)
+
+  lock-coded : (s : Setup) (op : LockOperation) (c : ℕ) (r : Run) (k : Lock) → IfPlain op → CodedOutcome (Rules.lockOp s op c r k)
   unfolding Rules.lockOp
-  lock-coded s op c r k = by (r .current)
+  lock-coded s op c r k dead = by (r .current)
     where
       by : (o : Current) → CodedOutcome (Rules.lockBy s op c o k)
       by Current.None = each .invalid
       by (Current.Thread t) =
           either CodedOutcome (isThread (t .0)) _ _
-          (either CodedOutcome (isOK (Rules.ruled s op c (t .0) k .code)) _ _ (each .ok)
-          (operate-coded op (k .state) (t .0) (Rules.elsewhere s c (t .0) k)))
-          (each .invalid)
+          (either CodedOutcome (isOK (Rules.ruled s op c (t .0) k .code)) _ _ (each .ok) (ruled-coded s op c (t .0) k dead)) (each .invalid)
 
   -- Operations 7, 8 and 9.
   mod-coded : (current enable disable : ℕ) (running pinOnly : Bool) → Coded (cpuMaskMod current enable disable running pinOnly)
@@ -187,9 +207,9 @@ module _ (P : ℤ → Type 0) (each : EachCode P) where
         let held = cpuAt m c .hold in
         two-coded (Rules.take t held (runOf c) (threadAt m t)) (take-coded t held (runOf c) (threadAt m t))
 
-    lock-request : (op : LockOperation) (c l : ℕ) → Coded (reply machineStore (Answer ℕ) m (onLock (m .setup) op c l))
-    lock-request op c l =
-        hold-coded op (cpuAt m c .hold) (Rules.lockOp (m .setup) op c (runOf c) (lockAt m l)) (lock-coded (m .setup) op c (runOf c) (lockAt m l))
+    lock-request : (op : LockOperation) (c l : ℕ) → IfPlain op → Coded (reply machineStore (Answer ℕ) m (onLock (m .setup) op c l))
+    lock-request op c l dead =
+        hold-coded op (cpuAt m c .hold) (Rules.lockOp (m .setup) op c (runOf c) (lockAt m l)) (lock-coded (m .setup) op c (runOf c) (lockAt m l) dead)
 
     thread-request : (op : ThreadOperation) (c t : ℕ) → Coded (reply machineStore (Answer ℕ) m (onThread (m .setup) op c t))
     thread-request (ThreadOperation.Mask enable disable) c t =
@@ -197,20 +217,23 @@ module _ (P : ℤ → Type 0) (each : EachCode P) where
     thread-request ThreadOperation.Pin c t = one-coded (Rules.pin (m .setup) c (threadAt m t)) (pin-coded (m .setup) c (threadAt m t))
     thread-request (ThreadOperation.Priority a) c t = one-coded (Rules.priority a (threadAt m t)) (priority-coded a (threadAt m t))
 
-    operation-coded : (op : Operation) (c t l : ℕ) → Coded (reply machineStore (Answer ℕ) m (operationBy (m .setup) op c t l))
-    operation-coded Operation.Malformed c t l = each .invalid
-    operation-coded (Operation.OnCpu op) c t l = cpu-request op c t
-    operation-coded (Operation.OnLock op) c t l = lock-request op c l
-    operation-coded (Operation.OnThread op) c t l = thread-request op c t
-    operation-coded Operation.Ipi c t l = rw (ipi-says m (m .setup) c t l) (ipi-coded (m .setup) c (Rules.runsOf cpuSlots (m .cpus)) (threadAt m t))
-    operation-coded Operation.Owner c t l = owner-coded (lockAt m l)
-    operation-coded Operation.Unwind c t l =
+    operation-coded : (op : Operation) (c t l : ℕ) → (op ≡ Operation.OnLock (LockOperation.Acquire false) → P EDEADLK)
+        → Coded (reply machineStore (Answer ℕ) m (operationBy (m .setup) op c t l))
+    operation-coded Operation.Malformed c t l dead = each .invalid
+    operation-coded (Operation.OnCpu op) c t l dead = cpu-request op c t
+    operation-coded (Operation.OnLock op) c t l dead = lock-request op c l (λ plain. dead (ap Operation.OnLock plain))
+    operation-coded (Operation.OnThread op) c t l dead = thread-request op c t
+    operation-coded Operation.Ipi c t l dead =
+        rw (ipi-says m (m .setup) c t l) (ipi-coded (m .setup) c (Rules.runsOf cpuSlots (m .cpus)) (threadAt m t))
+    operation-coded Operation.Owner c t l dead = owner-coded (lockAt m l)
+    operation-coded Operation.Unwind c t l dead =
         let locks = values machineStore lock (λ _ x. x) m lockCount in
         subst (λ (o : Outcome (Answer ℕ) (ℕ × Vals machineStore (everyLock []))). CodedOutcome o) (sym (unwind-fed m (m .setup) c t))
         (locks-coded (unwindAt m (m .setup) c t locks) (unwind-coded (m .setup) c t (runOf c) (cpuAt m c .hold) locks))
 
-    -- So it holds of the code of every answer.
-    pub answered-coded : (bytes : List ℕ) → P (answered m bytes .code)
+    -- So it holds of the code of every answer: of EDEADLK it has to, if the record asks for a plain acquire.
+    pub answered-coded : (bytes : List ℕ)
+        → (requestOf (m .setup) bytes .operation ≡ Operation.OnLock (LockOperation.Acquire false) → P EDEADLK) → P (answered m bytes .code)
     unfolding answered
-    answered-coded bytes =
-        let r = requestOf (m .setup) bytes in operation-coded (r .operation) (r .cpu .0) (r .thread .0) (r .lock .0)
+    answered-coded bytes dead =
+        let r = requestOf (m .setup) bytes in operation-coded (r .operation) (r .cpu .0) (r .thread .0) (r .lock .0) dead

@@ -50,7 +50,7 @@ pub answer-two : {A W X : Type 0} (o : Outcome A (W × X)) → answerOf o ≡ an
 answer-two (refuse a) = refl
 answer-two (accept a w) = refl
 
-answer-hold : (op : LockOperation) (h : ℕ) (o : Outcome (Answer ℕ) Lock) → answerOf o ≡ answerOf (withHold op h o)
+pub answer-hold : (op : LockOperation) (h : ℕ) (o : Outcome (Answer ℕ) Lock) → answerOf o ≡ answerOf (withHold op h o)
 answer-hold op h (refuse a) = refl
 answer-hold op h (accept a w) = refl
 

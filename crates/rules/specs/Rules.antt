@@ -1,4 +1,4 @@
--- 01, "Log records", and 02, requests 1 and 5: the operations, each a function of the cells that it names. The tests stand in the order of 01's
+-- 01, "Log records", and 02, requests 1, 5 and 6: the operations, each a function of the cells that it names. The tests stand in the order of 01's
 -- table, after the form test; a value on a refusal is the one that stands after the unchanged call.
 use Prim.Native.Nat.{ℕ, zero, suc, _+_, _-_, _%_, _^_}
 use mathlib.Core.Bool.{Bool, true, false, _&&_, _||_, not, cond}
@@ -9,8 +9,8 @@ use lib.ListN.{getD}
 use Rattle.error.specs.Codes.{OK, EPERM, EBUSY, EINVAL, EALREADY, numberOf, isOK}
 use Rattle.error.specs.Answer.{Answer, answer}
 use Rattle.words.specs.Bit.{bit, bitNot}
-use Rattle.spinlock_validate.specs.Owner.{spinLockComputeOwner, spinUnlockValid}
-use Rattle.spinlock.specs.Lock.{operate, held}
+use Rattle.spinlock_validate.specs.Owner.{spinLockComputeOwner, spinLockValid, spinUnlockValid}
+use Rattle.spinlock.specs.Lock.{operate, acquireAgain, held}
 use Rattle.spinlock.specs.declared.SpinlockState.{SpinlockState}
 use Rattle.spinlock.specs.declared.Operation.{Operation}
 use Rattle.cpu_mask.specs.Mask.{maskBits, bitsBelow, cpuMaskMod, cpuPinCompute}
@@ -137,9 +137,14 @@ onCpu CpuOperation.Take c t cpu thread = withSeat (appliedTo (cpu .run, thread) 
 abbrev pub elsewhere : Setup → ℕ → ℕ → Lock → Bool
 elsewhere s c t lock = not (spinUnlockValid (tagBits s) (lock .word) c (threadWord s t) .value)
 
+-- 02, request 6: a plain acquire is one again exactly if spin_lock_valid of the lock's word for the asking CPU is no.
+abbrev pub again : Setup → Operation → ℕ → ℕ → Bool
+again s (Operation.Acquire nested) c word = not nested && not (spinLockValid (tagBits s) word c .value)
+again s Operation.Release c word = false
+
 -- The lock's rule for thread t on CPU c.
 abbrev pub ruled : Setup → Operation → ℕ → ℕ → Lock → Answer SpinlockState
-ruled s op c t lock = operate op (lock .state) t (elsewhere s c t lock)
+ruled s op c t lock = cond (again s op c (lock .word)) (acquireAgain (lock .state) t) (operate op (lock .state) t (elsewhere s c t lock))
 
 -- Taking a free lock makes its word, and freeing it zeroes the word.
 abbrev pub wordAfter : Setup → ℕ → ℕ → Lock → SpinlockState → ℕ

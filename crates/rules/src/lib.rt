@@ -7,13 +7,15 @@
 ghost use mathlib.Core.Path.{_≡_};
 ghost use Prim.Native.Nat.{_-_};
 ghost use Rattle.machine.specs.State.{isCurrent};
-ghost use Rattle.rules.specs.Rules.{placed, oneMore, moved as Rules·moved};
+ghost use Rattle.rules.specs.Rules.{placed, again, oneMore, moved as Rules·moved};
 use error::Code;
 use machine::Cpu;
+use machine::CpuId;
 use machine::Current;
 use machine::Lock;
 use machine::Place;
 use machine::Run;
+use machine::Setup;
 use machine::Thread;
 use machine::ThreadId;
 use spinlock::Operation;
@@ -80,6 +82,23 @@ pub fn is_current(current: Current, t: ThreadId) -> bool
     match current {
         Current::None => false,
         Current::Thread(s) => s.0 == t.0,
+    }
+}
+
+// Whether an operation on the lock that has this word is a plain acquire again: the word names the CPU, which may not go for the lock then.
+pub fn is_again(setup: Setup, operation: Operation, c: CpuId, word: u64) -> bool
+    ensures { λ r. ⌜ r ≡ again setup operation (c .0) word ⌝ }
+{
+    match operation {
+        Operation::Acquire { nested } => {
+            if nested {
+                return false;
+            }
+            let width = setup.width();
+            let valid = spinlock_validate::spin_lock_valid(word, c.0, width);
+            !valid.yes
+        }
+        Operation::Release => false,
     }
 }
 

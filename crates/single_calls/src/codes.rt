@@ -47,6 +47,7 @@ fn cases() {
     numbered(Code::Enomem);
     numbered(Code::Ebusy);
     numbered(Code::Einval);
+    numbered(Code::Edeadlk);
     numbered(Code::Ealready);
     numbered(Code::Eoverflow);
 }

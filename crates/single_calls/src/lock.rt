@@ -46,7 +46,8 @@ fn acquired(name: &[u8], s: SpinlockState, tid: u32, nested: bool, r: Changed) {
     changed(r);
 }
 
-fn released(name: &[u8], s: SpinlockState, tid: u32, r: Changed) {
+// A release, or a plain acquire again.
+fn done(name: &[u8], s: SpinlockState, tid: u32, r: Changed) {
     asked(name, s, tid);
     changed(r);
 }
@@ -63,7 +64,8 @@ fn answered(name: &[u8], s: SpinlockState, tid: u32, r: YesNo) {
 fn by_thread(s: SpinlockState, tid: u32) {
     acquired(b"acquire", s, tid, false, s.acquire(tid, false));
     acquired(b"acquire", s, tid, true, s.acquire(tid, true));
-    released(b"release", s, tid, s.release(tid));
+    done(b"acquire_again", s, tid, s.acquire_again(tid));
+    done(b"release", s, tid, s.release(tid));
     answered(
         b"acquire_check",
         s,
@@ -95,7 +97,7 @@ fn acquire_elsewhere(s: SpinlockState, tid: u32, nested: bool) {
 fn elsewhere(s: SpinlockState, tid: u32) {
     acquire_elsewhere(s, tid, false);
     acquire_elsewhere(s, tid, true);
-    released(
+    done(
         b"release_elsewhere",
         s,
         tid,

@@ -45,6 +45,7 @@ pub(crate) fn code(c: Code) {
         Code::Enomem => text(b"ENOMEM"),
         Code::Ebusy => text(b"EBUSY"),
         Code::Einval => text(b"EINVAL"),
+        Code::Edeadlk => text(b"EDEADLK"),
         Code::Ealready => text(b"EALREADY"),
         Code::Eoverflow => text(b"EOVERFLOW"),
     }

@@ -1,6 +1,7 @@
 -- Laws of one lock record, real heirs of upstream's lemmas: every operation keeps validity, a refusal changes nothing, a release undoes an
--- acquire of either kind, n nested acquires take n releases, a plain acquire of a held lock is refused to every thread, and elsewhere the
--- owner is as another thread. An operation on a valid record goes by what the record is to the thread (`view`). Assumes nothing.
+-- acquire of either kind, n nested acquires take n releases, a plain acquire of a held lock is refused to every thread, a plain acquire again
+-- differs from it in that code alone, and elsewhere the owner is as another thread. An operation on a valid record goes by what the record is to
+-- the thread (`view`). Assumes nothing.
 use mathlib.Core.Path.{_≡_, refl, sym, ap, _∙_}
 use mathlib.Core.Logic.{_⊎_, inl, inr}
 use mathlib.Core.Bool.{Bool, true, false, cond, false≢true}
@@ -10,11 +11,11 @@ use native.Mathlib.Omega.{arith}
 use lib.Dec.{eqb, lit<, lit≤}
 use lib.IntN.{pos-ne-negsuc}
 use borrow.Author.Tests.{lt-ltb, le-leb, eq-eqb, ne-eqb, eqb-false}
-use Rattle.error.specs.Codes.{OK, EBUSY, EINVAL}
+use Rattle.error.specs.Codes.{OK, EBUSY, EINVAL, EDEADLK}
 use Rattle.error.specs.Answer.{Answer, answer}
-use Rattle.error.proofs.Answers.{same-code}
+use Rattle.error.proofs.Answers.{same-code, same-value}
 use Rattle.words.proofs.Choice.{bool-ind, below-or}
-use Rattle.spinlock.specs.Table.{codeOf}
+use Rattle.spinlock.specs.Table.{codeOf, codeAgain}
 use Rattle.spinlock.specs.Lock.{
   maxNestDepth,
   freeRecord,
@@ -27,6 +28,7 @@ use Rattle.spinlock.specs.Lock.{
   after,
   operate,
   acquire,
+  acquireAgain,
   release,
   held,
   owns,
@@ -254,6 +256,69 @@ acquire-of-held s tid elsewhere valid taken = operated (Acquire false) s tid els
 -- Upstream's lemma_double_acquire_rejected, of the single call.
 pub plain-acquire-of-held : (s : SpinlockState) (tid : ℕ) → validRecord s ≡ true → held (s .owner) ≡ true → acquire s tid false ≡ answer EBUSY s
 plain-acquire-of-held s tid = acquire-of-held s tid false
+
+-- ---- a plain acquire again
+
+-- On a valid record, by its situation.
+pub again-by : (s : SpinlockState) (tid : ℕ) {sit : Situation} → validRecord s ≡ true → situationAt s tid false ≡ sit
+    → acquireAgain s tid ≡ answer (codeAgain sit) (after (Acquire false) sit s tid)
+unfolding acquireAgain
+again-by s tid valid e = rw (valid, e, operated (Acquire false) s tid false valid e)
+
+-- An invalid record comes back as given.
+pub again-invalid : (s : SpinlockState) (tid : ℕ) → validRecord s ≡ false → acquireAgain s tid ≡ answer EINVAL s
+unfolding acquireAgain
+again-invalid s tid bad = rw bad
+
+-- It leaves the record that the plain acquire leaves, so it keeps validity, and a release undoes it.
+pub again-leaves : (s : SpinlockState) (tid : ℕ) → acquireAgain s tid .value ≡ acquire s tid false .value
+unfolding acquireAgain
+again-leaves s tid =
+    bool-ind (λ b. validRecord s ≡ b → acquireAgain s tid .value ≡ acquire s tid false .value) (validRecord s) (λ _ valid. rw valid)
+    (λ _ bad. same-value (again-invalid s tid bad) ∙ sym (same-value (invalid-refused (Acquire false) s tid false bad))) refl
+
+-- Of a held lock the two codes differ: this one is a deadlock.
+pub again-of-held : (s : SpinlockState) (tid : ℕ) → validRecord s ≡ true → held (s .owner) ≡ true → acquireAgain s tid ≡ answer EDEADLK s
+unfolding codeAgain after
+again-of-held s tid valid taken = again-by s tid valid refl ∙ by (view s tid false valid)
+  where
+    by : {sit : Situation} → View s tid sit → answer (codeAgain sit) (after (Acquire false) sit s tid) ≡ answer EDEADLK s
+    by (free e) = absurd (false≢true (sym (ap (λ (r : SpinlockState). held (r .owner)) e) ∙ taken))
+    by (own _ _) = refl
+    by (full _ _) = refl
+    by (foreign _ _) = refl
+
+-- Of every other record they are the same.
+pub again-of-others : (s : SpinlockState) (tid : ℕ) → held (s .owner) ≡ false → acquireAgain s tid ≡ acquire s tid false
+unfolding codeOf codeAgain after
+again-of-others s tid nobody =
+    bool-ind (λ b. validRecord s ≡ b → acquireAgain s tid ≡ acquire s tid false) (validRecord s)
+    (λ _ valid. again-by s tid valid refl ∙ by (view s tid false valid) ∙ sym (operated (Acquire false) s tid false valid refl))
+    (λ _ bad. again-invalid s tid bad ∙ sym (invalid-refused (Acquire false) s tid false bad)) refl
+  where
+    held-by : (t : ℕ) → HeldBy s t → ⊥
+    held-by t theirs = false≢true (sym nobody ∙ ap held (theirs .owner))
+
+    by : {sit : Situation} → View s tid sit
+        → answer (codeAgain sit) (after (Acquire false) sit s tid) ≡ answer (codeOf (Acquire false) sit) (after (Acquire false) sit s tid)
+    by (free _) = refl
+    by (own mine _) = absurd (held-by tid mine)
+    by (full mine _) = absurd (held-by tid mine)
+    by (foreign t theirs) = absurd (held-by t theirs)
+
+-- A refusal changes nothing.
+pub again-refused-unchanged : (s : SpinlockState) (tid : ℕ) → (acquireAgain s tid .code ≡ OK → ⊥) → acquireAgain s tid .value ≡ s
+again-refused-unchanged s tid refusal =
+    bool-ind (λ b. held (s .owner) ≡ b → acquireAgain s tid .value ≡ s) (held (s .owner)) (λ _ taken. again-leaves s tid ∙ kept taken)
+    (λ _ nobody.
+    let same = again-of-others s tid nobody in
+    again-leaves s tid ∙ refused-unchanged (Acquire false) s tid false (λ e. refusal (same-code same ∙ e))) refl
+  where
+    kept : held (s .owner) ≡ true → acquire s tid false .value ≡ s
+    kept taken =
+        bool-ind (λ b. validRecord s ≡ b → acquire s tid false .value ≡ s) (validRecord s)
+        (λ _ valid. same-value (plain-acquire-of-held s tid valid taken))
+        (λ _ bad. same-value (invalid-refused (Acquire false) s tid false bad)) refl
 
 -- ---- a thread elsewhere
 

@@ -1,4 +1,4 @@
--- 01, "Lock record": owner (none or a thread), depth, irq flag.
+-- 01, "Lock record", and 02, request 6: owner (none or a thread), depth, irq flag.
 use Prim.Native.Nat.{ℕ, _+_, _-_}
 use mathlib.Core.Bool.{Bool, true, false, _&&_, not, cond}
 use lib.Dec.{eqb, ltb, leb}
@@ -12,7 +12,7 @@ use Rattle.spinlock.specs.declared.Operation.{Operation}
 use Rattle.spinlock.specs.declared.Operation.the-variants.{Acquire, Release}
 use Rattle.spinlock.specs.declared.Situation.{Situation}
 use Rattle.spinlock.specs.declared.Situation.the-variants.{Free, Own, Full, Foreign}
-use Rattle.spinlock.specs.Table.{codeOf}
+use Rattle.spinlock.specs.Table.{codeOf, codeAgain}
 
 -- What a changed record says, in 01's terms: a code and the record after it.
 abbrev pub changedSays : Changed → Answer SpinlockState
@@ -78,6 +78,11 @@ operate op s tid elsewhere =
 -- acquire: free is taken; held is EBUSY, for the owner also. Nested, the owner below 255 gains one instead. Nobody is elsewhere.
 abbrev pub acquire : SpinlockState → ℕ → Bool → Answer SpinlockState
 acquire s tid nested = operate (Acquire nested) s tid false
+
+-- acquire again, a plain one by the CPU that the lock's word names: as acquire, but held is EDEADLK.
+unfoldable pub acquireAgain : SpinlockState → ℕ → Answer SpinlockState
+acquireAgain s tid =
+    cond (validRecord s) (answer (codeAgain (situationAt s tid false)) (acquire s tid false .value)) (answer EINVAL s)
 
 -- release: the owner loses one level, and at depth 1 frees the lock; else EPERM, for a free lock too.
 abbrev pub release : SpinlockState → ℕ → Answer SpinlockState

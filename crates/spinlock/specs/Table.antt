@@ -1,9 +1,9 @@
 -- 01, "What must change shape": the codes of acquire, plain or nested, and of release depend only on whether a record is free, the owner's
--- below 255, the owner's at 255 or another's.
+-- below 255, the owner's at 255 or another's. 02, request 6: so do those of a plain acquire again, by the CPU that the lock's word names.
 use Prim.Native.Nat.{ℕ}
 use mathlib.Core.Bool.{cond}
 use lib.IntN.{ℤ}
-use Rattle.error.specs.Codes.{OK, EPERM, EBUSY}
+use Rattle.error.specs.Codes.{OK, EPERM, EBUSY, EDEADLK}
 use Rattle.spinlock.specs.declared.Operation.{Operation}
 use Rattle.spinlock.specs.declared.Operation.the-variants.{Acquire, Release}
 use Rattle.spinlock.specs.declared.Situation.{Situation}
@@ -31,3 +31,10 @@ codeOf Release Free = EPERM
 codeOf Release Own = OK
 codeOf Release Full = OK
 codeOf Release Foreign = EPERM
+
+-- acquire again: held is EDEADLK, whoever holds it there.
+unfoldable pub codeAgain : Situation → ℤ
+codeAgain Free = OK
+codeAgain Own = EDEADLK
+codeAgain Full = EDEADLK
+codeAgain Foreign = EDEADLK

@@ -5,13 +5,14 @@
 //   spinlock_reads
 //   set_owner is named upstream and stands in no file: spinlock_validate::spin_lock_compute_owner stands for it
 //   operate is new: acquire and release in one, for a thread that may be on another CPU than it took the lock on
+//   acquire_again is new: a plain acquire by the CPU that holds the lock (document 02, request 6); the single call keeps upstream's EBUSY
 // What upstream requires, a valid record, is tested here: an invalid one is EINVAL in every call and comes back as given. A caller can
 // rely on these (proofs/Laws.antt): no call makes a valid record invalid, a refusal changes nothing, and a release undoes an acquire.
 ghost use mathlib.Core.Path.{_≡_};
 ghost use mathlib.Core.Bool.{Bool, true, false};
 ghost use Prim.Native.Nat.{_<_};
 ghost use Rattle.error.specs.Codes.{numberOf};
-ghost use Rattle.spinlock.specs.Table.{rowOf, columnOf, codeOf};
+ghost use Rattle.spinlock.specs.Table.{rowOf, columnOf, codeOf, codeAgain};
 ghost use Rattle.spinlock.specs.Lock.{
   changedSays,
   freeRecord,
@@ -24,6 +25,7 @@ ghost use Rattle.spinlock.specs.Lock.{
   validRecord,
   situationAt,
   acquire,
+  acquireAgain,
   release,
 };
 use error::Code;
@@ -65,12 +67,17 @@ pub enum Situation {
     Foreign,
 }
 
-// The code of each operation in each situation: rows plain acquire, nested acquire, release; columns free, own, full, foreign.
-const CODES: [[Code; 4]; 3] = [
+// The code of each operation in each situation: rows plain acquire, nested acquire, release, and plain acquire again, by the CPU that the lock's
+// word names; columns free, own, full, foreign.
+const CODES: [[Code; 4]; 4] = [
     [Code::Ok, Code::Ebusy, Code::Ebusy, Code::Ebusy],
     [Code::Ok, Code::Ok, Code::Ebusy, Code::Ebusy],
     [Code::Eperm, Code::Ok, Code::Ok, Code::Eperm],
+    [Code::Ok, Code::Edeadlk, Code::Edeadlk, Code::Edeadlk],
 ];
+
+// The row of a plain acquire again.
+const AGAIN: usize = 3;
 
 fn row(operation: Operation) -> usize
     ensures { λ r. ⌜ (r ≡ rowOf operation) × (r < 3) ⌝ }
@@ -99,6 +106,14 @@ fn code_of(operation: Operation, situation: Situation) -> Code
     let i = row(operation);
     let j = column(situation);
     CODES[i][j]
+}
+
+// The code of a plain acquire again in a situation.
+fn code_again(situation: Situation) -> Code
+    ensures { λ r. ⌜ numberOf r ≡ codeAgain situation ⌝ }
+{
+    let j = column(situation);
+    CODES[AGAIN][j]
 }
 
 // The record that a thread has just taken.
@@ -239,6 +254,23 @@ impl SpinlockState {
         ensures { λ r. ⌜ changedSays r ≡ acquire self tid nested ⌝ }
     {
         self.operate(Operation::Acquire { nested }, tid, false)
+    }
+
+    // Takes a free lock, by a plain acquire on the CPU that the lock's word names: as acquire, but a held lock is a deadlock, since that CPU itself
+    // holds it. Who asks knows the word; the record does not.
+    pub fn acquire_again(self, tid: u32) -> Changed
+        ensures { λ r. ⌜ changedSays r ≡ acquireAgain self tid ⌝ }
+    {
+        let plain = self.acquire(tid, false);
+        if !self.valid() {
+            return plain;
+        }
+        let situation = self.situation(tid, false);
+        let state = plain.state;
+        Changed {
+            code: code_again(situation),
+            state,
+        }
     }
 
     // Gives back one level, for the owner alone.

@@ -228,6 +228,6 @@ fn replay(path: &[u8], calls: bool) {
 }
 
 fn main() {
-    replay(b"logs-after-05.txt", false);
+    replay(b"logs-after-06.txt", false);
     replay(b"calls-01.txt", true);
 }
