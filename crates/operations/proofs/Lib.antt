@@ -4,4 +4,5 @@ pub mod Turns
 pub mod Setups
 pub mod Refused
 pub mod Lengths
+pub mod Pieces
 pub mod Codes

@@ -1,7 +1,7 @@
 -- 01, "Log records", "Runner": the records of a log one after the other, each answer in its place.
 use Prim.Native.Nat.{ℕ, zero, suc, _*_, _/_}
 use mathlib.Core.Bool.{cond}
-use mathlib.Core.List.{List, _++_}
+use mathlib.Core.List.{List, [], _++_}
 use lib.IntN.{ℤ}
 use lib.ListN.{length, take, drop}
 use Rattle.error.specs.Codes.{EINVAL, numberOf, isOK}
@@ -30,6 +30,11 @@ writtenAt at a room = take at room ++ written (answerBytes (a .code) (a .value))
 unfoldable pub roomAt : Machine → List ℕ → List ℕ → ℕ → List ℕ
 roomAt m log room zero = room
 roomAt m log room (suc k) = writtenAt (k * 8) (answerAt m log k) (roomAt m log room k)
+
+-- The bytes of the first k answers, one answer after the other.
+unfoldable pub answersOf : Machine → List ℕ → ℕ → List ℕ
+answersOf m log zero = []
+answersOf m log (suc k) = answersOf m log k ++ answerBytes (answerAt m log k .code) (answerAt m log k .value)
 
 -- What goes with OK, and what with a refusal.
 abbrev pub onOK : {A : Type 0} → ℤ → A → A → A
