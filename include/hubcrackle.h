@@ -1,12 +1,13 @@
 /*
  * Hubcrackle: spinlock, affinity and interrupt rules for a C kernel.
  *
- * Link target/staticlib/libkernel.a, which `rt staticlib kernel` writes for x86-64. The functions allocate nothing, keep no state between
- * calls and call nothing but memcpy, so any number of CPUs may be in them at once.
+ * Link target/staticlib/libkernel.a, which `rt staticlib kernel` writes for x86-64, and for hubcrackle_start, hubcrackle_feed and hubcrackle_finish
+ * target/staticlib/libkernel_form.a too, which `rt staticlib kernel_form` writes. The functions allocate nothing, keep no state between calls and
+ * call nothing but memcpy, so any number of CPUs may be in them at once.
  *
- * The archive is plain System V x86-64 code: it may use SSE registers and the 128 bytes below the stack pointer. Call it where both are allowed.
- * As built now, hubcrackle_run takes about 10,800 bytes of stack, and every other function less than 512. Its machine, with sixteen CPU slots in
- * either width, has 3,912 of them.
+ * The archives are plain System V x86-64 code: they may use SSE registers and the 128 bytes below the stack pointer. Call them where both are
+ * allowed. As built now, hubcrackle_run takes about 10,800 bytes of stack, hubcrackle_feed 35,500, hubcrackle_start 11,900 and hubcrackle_finish
+ * 11,700, and every other function less than 512. Their machine, with sixteen CPU slots in either width, has 3,912 bytes, and is held by value.
  *
  * Every function works in the same way.
  *
@@ -20,7 +21,8 @@
  * The bytes belong to the caller, who lends them for the time of the call; no pointer is kept. A pointer is never NULL, also where its length
  * is 0, and points to at least as many bytes as its length says. `out` does not overlap what the same call reads.
  *
- * That each function returns the code and leaves the bytes that its rule gives, for every argument, is proved: crates/kernel has the contracts.
+ * That each function returns the code and leaves the bytes that its rule gives, for every argument, is proved: crates/kernel and crates/kernel_form
+ * have the contracts.
  */
 #ifndef HUBCRACKLE_H
 #define HUBCRACKLE_H
@@ -28,8 +30,8 @@
 #include <stddef.h>
 #include <stdint.h>
 
-/* Codes. The numbers are Zephyr's. The single calls give OK, ENOMEM and EINVAL, and hubcrackle_run returns EOVERFLOW too. The answer to one
- * record of a log can have any of these but ENOMEM and EOVERFLOW. */
+/* Codes. The numbers are Zephyr's. The single calls give OK, ENOMEM and EINVAL, and hubcrackle_run and hubcrackle_feed return EOVERFLOW too. The
+ * answer to one record of a log can have any of these but ENOMEM and EOVERFLOW. */
 #define HUBCRACKLE_OK 0
 #define HUBCRACKLE_EPERM (-1)       /* not the owner; thread not on that CPU */
 #define HUBCRACKLE_ENOMEM (-12)     /* `out` is too short for the value */
@@ -37,7 +39,7 @@
 #define HUBCRACKLE_EINVAL (-22)     /* bad number, form, record or mask; CPU down or empty; thread running */
 #define HUBCRACKLE_EDEADLK (-45)    /* the asking CPU itself holds the lock */
 #define HUBCRACKLE_EALREADY (-114)  /* CPU already up, or already down */
-#define HUBCRACKLE_EOVERFLOW (-139) /* log over HUBCRACKLE_LOG_MAX bytes */
+#define HUBCRACKLE_EOVERFLOW (-139) /* log or fragment over HUBCRACKLE_LOG_MAX bytes */
 
 /* How many bytes a value has in `out`. */
 #define HUBCRACKLE_WORD_BYTES 8   /* an owner word */
@@ -53,6 +55,9 @@
 /* How long a log may be, and the room that its answers then need. */
 #define HUBCRACKLE_LOG_MAX 24576     /* 2048 records */
 #define HUBCRACKLE_ANSWERS_MAX 16384 /* 2048 answers */
+
+/* How many bytes a form has, between the calls that take a log as it arrives. */
+#define HUBCRACKLE_FORM_BYTES 2962
 
 #ifdef __cplusplus
 extern "C" {
@@ -170,6 +175,37 @@ int32_t hubcrackle_validate_ipi_mask(uint32_t mask, uint32_t current_cpu, uint32
  * this order: EINVAL: a bad setup byte. EOVERFLOW: log_len is above HUBCRACKLE_LOG_MAX. EINVAL: log_len is no multiple of
  * HUBCRACKLE_RECORD_BYTES. ENOMEM: out_len is below HUBCRACKLE_ANSWER_BYTES times the number of records. */
 int32_t hubcrackle_run(uint8_t setup, const uint8_t *log, size_t log_len, uint8_t *out, size_t out_len);
+
+/*
+ * A log as it arrives, in fragments that may end inside a record. A form keeps the machine between the calls, and the bytes of the record that is
+ * not whole yet, in HUBCRACKLE_FORM_BYTES that the caller lends to each call. Start it, feed it each fragment as it comes, and finish it. For a log
+ * of whole records that is cut anywhere, and of which no fragment is refused, the answers, one behind the other, are those of hubcrackle_run;
+ * a log may also be longer than HUBCRACKLE_LOG_MAX. Records and answers are as above.
+ *
+ * What it costs: each call reads the whole form from its bytes and tests it, and a feed that is accepted writes it back. For a feed that is as long
+ * as some 100 records take, whatever the fragment's length is, so hand over what has arrived rather than single bytes. In fragments of 1,000 bytes a
+ * log takes about 2.7 times as long as in one hubcrackle_run, in fragments of HUBCRACKLE_LOG_MAX about 1.15 times.
+ *
+ * The bytes of a form are for these calls alone: what they hold may change with the archive. A form may be copied; bytes that no call has written
+ * are taken for the form that they happen to spell, and refused with EINVAL unless its machine is well-formed and at most eleven bytes are pending.
+ */
+
+/* A form with nothing pending, on the fresh machine of a setup byte. Value, over the front of `form`: HUBCRACKLE_FORM_BYTES.
+ * EINVAL: a bad setup byte. ENOMEM: form_len is below HUBCRACKLE_FORM_BYTES. */
+int32_t hubcrackle_start(uint8_t setup, uint8_t *form, size_t form_len);
+
+/* A fragment of a log: 0 to HUBCRACKLE_LOG_MAX bytes. Runs the records that it completes, of which there are at most 2048, and keeps the bytes behind
+ * them for the next call. Value: HUBCRACKLE_ANSWER_BYTES for each of those records, in their order; `records` says how many there were.
+ * `form`, `fragment`, `out` and `records` do not overlap. A fragment is taken whole or not at all: on any code but OK neither the form nor `out` nor
+ * `records` has changed, and feeding may go on, with the same fragment in smaller parts or with more room.
+ * In this order: EINVAL: form_len is below HUBCRACKLE_FORM_BYTES; no form. EOVERFLOW: fragment_len is above HUBCRACKLE_LOG_MAX. ENOMEM: out_len is
+ * below HUBCRACKLE_ANSWER_BYTES times the number of records. */
+int32_t hubcrackle_feed(uint8_t *form, size_t form_len, const uint8_t *fragment, size_t fragment_len, uint8_t *out, size_t out_len,
+                        uint32_t *records);
+
+/* The end of a log. It has no value and changes nothing, so feeding may go on after it. EINVAL: form_len is below HUBCRACKLE_FORM_BYTES; no form; the
+ * log ends inside a record. The records that were run stand. */
+int32_t hubcrackle_finish(const uint8_t *form, size_t form_len);
 
 #ifdef __cplusplus
 }

@@ -1,6 +1,10 @@
-//! Times the exported runner against the same rules written for speed in Rust, in one process, and first compares their bytes.
+//! Times the exported runner against the same rules written for speed in Rust, in one process, and first compares their bytes. Then times the same
+//! logs in fragments against a run.
 
 mod baseline;
+#[path = "../../compare/src/form.rs"]
+mod form;
+mod fragments;
 #[path = "../../compare/src/hubcrackle.rs"]
 mod hubcrackle;
 mod logs;
@@ -147,4 +151,5 @@ fn main() {
     print_accepted("", &narrow);
     print_accepted("wide ", &wide);
     println!("{} of {} logs over their goal", met.iter().filter(|met| !**met).count(), met.len());
+    fragments::print(&narrow, &wide);
 }

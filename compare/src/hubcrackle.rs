@@ -23,4 +23,15 @@ unsafe extern "C" {
     ) -> i32;
     pub fn hubcrackle_validate_ipi_mask(mask: u32, current: u32, max_cpus: u32, out: *mut u8, out_len: usize) -> i32;
     pub fn hubcrackle_run(setup: u8, log: *const u8, log_len: usize, out: *mut u8, out_len: usize) -> i32;
+    pub fn hubcrackle_start(setup: u8, form: *mut u8, form_len: usize) -> i32;
+    pub fn hubcrackle_feed(
+        form: *mut u8,
+        form_len: usize,
+        fragment: *const u8,
+        fragment_len: usize,
+        out: *mut u8,
+        out_len: usize,
+        records: *mut u32,
+    ) -> i32;
+    pub fn hubcrackle_finish(form: *const u8, form_len: usize) -> i32;
 }

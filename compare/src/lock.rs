@@ -1,4 +1,5 @@
-//! The lock record, through the runner: the lock of a record is upstream's, as long as every thread stays on its CPU.
+//! The lock record, through the runner: the lock of a record is upstream's, as long as every thread stays on its CPU. Each log is run whole, and once
+//! more in fragments.
 //!
 //! After each call on a lock the log asks for the lock's owner word, so that code, depth and owner are compared. The irq flag is in no answer: on a
 //! well-formed machine, as every step keeps it, it is set exactly while the lock is held. Upstream's flag is held to that.
@@ -8,6 +9,7 @@ use upstream::spinlock::{MAX_NEST_DEPTH, SpinlockState};
 use upstream::spinlock_validate::spin_lock_compute_owner;
 
 use crate::differences::Difference;
+use crate::form::Form;
 use crate::ours::{self, OK};
 use crate::random::Random;
 use crate::tally::{Kind, Tally};
@@ -21,6 +23,11 @@ const RECORD_BYTES: usize = 12;
 const ANSWER_BYTES: usize = 8;
 /// Where A's last byte stands in a record: of an acquire whether it is nested.
 const FLAG_AT: usize = 7;
+
+/// The cuts are of a seed of their own, so that they change no log.
+const CUTS_SEED: u64 = 2;
+/// What the fragments of a log are shorter than: about a record, some records, or all of them.
+const SHORTER: [u64; 4] = [14, 200, 3_000, 24_577];
 
 const UP: u8 = 0;
 const PUT: u8 = 2;
@@ -72,10 +79,8 @@ impl Log {
         log
     }
 
-    /// Runs it, and ends the process at the first answer that differs.
-    fn hold(&self) {
-        let mut room = vec![0; RECORDS * ANSWER_BYTES];
-        assert_eq!(ours::run(SETUP, &self.records, &mut room), OK, "a log was refused");
+    /// Ends the process at the first answer that differs.
+    fn hold(&self, room: &[u8]) {
         let differs = room.chunks(ANSWER_BYTES).zip(self.answers.chunks(ANSWER_BYTES)).position(|(a, b)| a != b);
         if let Some(at) = differs {
             let bytes = at * ANSWER_BYTES..(at + 1) * ANSWER_BYTES;
@@ -84,6 +89,35 @@ impl Log {
             std::process::exit(1);
         }
     }
+
+    /// Runs it whole.
+    fn hold_run(&self) {
+        let mut room = vec![0; RECORDS * ANSWER_BYTES];
+        assert_eq!(ours::run(SETUP, &self.records, &mut room), OK, "a log was refused");
+        self.hold(&room);
+    }
+
+    /// Feeds it to a form in fragments; how many there were.
+    fn hold_fragments(&self, cuts: &mut Random) -> usize {
+        let mut room = vec![0; RECORDS * ANSWER_BYTES];
+        let fragments = cut(&self.records, cuts);
+        let answered = Form::new().follow(SETUP, fragments.iter().copied(), &mut room);
+        assert_eq!(answered, self.answers.len(), "the fragments of a log have not all of its answers");
+        self.hold(&room);
+        fragments.len()
+    }
+}
+
+/// Bytes in fragments, cut at random.
+fn cut<'a>(mut bytes: &'a [u8], cuts: &mut Random) -> Vec<&'a [u8]> {
+    let shorter = SHORTER[cuts.below(SHORTER.len() as u64) as usize];
+    let mut fragments = vec![];
+    while !bytes.is_empty() {
+        let (fragment, left) = bytes.split_at(bytes.len().min(cuts.below(shorter) as usize));
+        fragments.push(fragment);
+        bytes = left;
+    }
+    fragments
 }
 
 /// What a log answers where upstream answers EBUSY to the thread that holds the lock.
@@ -93,8 +127,8 @@ fn told_apart(tally: &mut Tally, code: i32) -> i32 {
     EDEADLK
 }
 
-/// One log against one record a lock; how often a nested acquire was asked for at the greatest depth.
-fn compare_log(tally: &mut Tally, random: &mut Random) -> u64 {
+/// A log, with the answers of one of upstream's records a lock, and how often it asks for a nested acquire at the greatest depth.
+fn made(tally: &mut Tally, random: &mut Random) -> (Log, u64) {
     let mut log = Log::opened();
     let mut states = [SpinlockState::init(); LOCKS as usize];
     // Half of the logs keep to one CPU and one lock, so that the greatest depth is reached and passed.
@@ -127,11 +161,19 @@ fn compare_log(tally: &mut Tally, random: &mut Random) -> u64 {
         tally.count(Kind::Compared);
         tally.count(Kind::Compared);
     }
-    log.hold();
-    full
+    (log, full)
 }
 
-pub fn compare(tally: &mut Tally, random: &mut Random) {
-    let full: u64 = (0..LOGS).map(|_| compare_log(tally, random)).sum();
-    assert!(full > 0, "no log reaches the greatest depth");
+/// Holds every log, whole and in fragments; how many fragments there were, which the tally does not count.
+pub fn compare(tally: &mut Tally, random: &mut Random) -> usize {
+    let mut cuts = Random::new(CUTS_SEED);
+    let (mut fragments, mut deepest) = (0, 0);
+    for _ in 0..LOGS {
+        let (log, full) = made(tally, random);
+        log.hold_run();
+        fragments += log.hold_fragments(&mut cuts);
+        deepest += full;
+    }
+    assert!(deepest > 0, "no log reaches the greatest depth");
+    fragments
 }

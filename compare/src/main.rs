@@ -3,6 +3,7 @@
 //! docs/DIFFERENCES.md has too.
 
 mod differences;
+mod form;
 mod hubcrackle;
 mod interrupt;
 mod lock;
@@ -51,8 +52,9 @@ fn main() {
         before = told(part, &judge.tally, before);
     }
     let mut tally = judge.finish();
-    lock::compare(&mut tally, &mut random);
+    let fragments = lock::compare(&mut tally, &mut random);
     before = told("lock records, through the runner", &tally, before);
+    println!("the same logs in {fragments} fragments: the same answers");
     stored::compare(&mut tally);
     told("lock records, the stored lines of single_calls", &tally, before);
     tally.print();

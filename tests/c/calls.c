@@ -1,6 +1,6 @@
 /*
  * Calls every exported function as a C kernel does, with arguments that it accepts and arguments that it refuses, and looks at the code, at the
- * value and at every byte around it. tests/c/run builds it as C and as C++ and runs both.
+ * value and at every byte around it, also of every form. tests/c/run builds it as C and as C++ and runs both.
  *
  * It includes nothing of a C library, so that a compiler for another machine needs no headers of one.
  */
@@ -276,24 +276,24 @@ static size_t spread(uint8_t *log, const head *heads, int count)
     return (size_t)count * HUBCRACKLE_RECORD_BYTES;
 }
 
+/* "One log entire" of document 01; the fourth record is an acquire with A = 1, as document 02 has it. */
+static const head worked[] = { { 0x00 }, { 0x20, 3 }, { 0x40, 0, 7 }, { 0x40, 0, 7, 0, 1 }, { 0x30, 3 }, { 0xb0, 0, 7 }, { 0x60, 0, 7 } };
+static const char worked_answers[] = "0000000000000000"
+                                     "0000000000000000"
+                                     "0000000000000001"
+                                     "0000000000000002"
+                                     "fffffff000000000"
+                                     "0000000000000010"
+                                     "0000000000000001";
+
 static void logs(void)
 {
-    /* "One log entire" of document 01; the fourth record is an acquire with A = 1, as document 02 has it. */
-    static const head heads[] = { { 0x00 }, { 0x20, 3 }, { 0x40, 0, 7 }, { 0x40, 0, 7, 0, 1 }, { 0x30, 3 }, { 0xb0, 0, 7 }, { 0x60, 0, 7 } };
     /* Take from an idle CPU, and up twice: refused records have answers too. */
     static const uint8_t refusals[36] = { 0x30, 3, 0, 0, 0, 0, 0, 0, 0, 0, 0, 0, 0x00 };
     uint8_t log[7 * HUBCRACKLE_RECORD_BYTES];
 
-    spread(log, heads, 7);
-    TRY(OK,
-        "0000000000000000"
-        "0000000000000000"
-        "0000000000000001"
-        "0000000000000002"
-        "fffffff000000000"
-        "0000000000000010"
-        "0000000000000001",
-        hubcrackle_run(0x20, log, sizeof log, out, 56)); /* M11 */
+    spread(log, worked, 7);
+    TRY(OK, worked_answers, hubcrackle_run(0x20, log, sizeof log, out, 56)); /* M11 */
     TRY(OK, "0000000000000000", hubcrackle_run(0x20, log, 12, out, ROOM));
     TRY(OK, "ffffffff000000000000000000000000ffffff8e00000000", hubcrackle_run(0x48, refusals, 36, out, 24));
     TRY(OK, "", hubcrackle_run(0x10, log, 0, out, 0));
@@ -530,16 +530,516 @@ static void pins(void)
     TRY(OK, "00000200", hubcrackle_cpu_mask_mod(1, 0x200, 1, 0, 1, out, 4));
 }
 
-/* The longest log: the first record is accepted, and the other 2047 are EALREADY. */
-static void longest_log(void)
+/* The answers to 2048 records that are all "up" of CPU 0: where it was down the first is accepted, and every other is EALREADY. */
+static const char *ups(int was_down)
 {
     static char answers[2 * ROOM + 1];
     static const char first[] = "0000000000000000", other[] = "ffffff8e00000000";
     int at;
 
     for (at = 0; at < 2 * ROOM; at++)
-        answers[at] = at < 16 ? first[at] : other[at % 16];
-    TRY(OK, answers, hubcrackle_run(0x20, zeros, HUBCRACKLE_LOG_MAX, out, ROOM));
+        answers[at] = at < 16 && was_down ? first[at] : other[at % 16];
+    return answers;
+}
+
+static void longest_log(void)
+{
+    TRY(OK, ups(1), hubcrackle_run(0x20, zeros, HUBCRACKLE_LOG_MAX, out, ROOM));
+}
+
+/* Forms in lent room, each with bytes on both sides that no call may touch, and what all these were before a call. */
+enum { FORM = HUBCRACKLE_FORM_BYTES, FORMS = 3, FORM_ALL = BEFORE + FORM + AFTER };
+static uint8_t lent[FORMS][FORM_ALL], were[FORMS][FORM_ALL];
+static uint8_t *const one = lent[0] + BEFORE, *const two = lent[1] + BEFORE, *const three = lent[2] + BEFORE;
+
+/* In a form the eleven places for pending bytes, and how many are pending, stand at the end. */
+enum { PENDING_AT = FORM - 12, PENDING = 11, COUNT_AT = FORM - 1 };
+
+/* Where a feed says how many records it ran, between two numbers that it may not touch; what all three are before a call. */
+static uint32_t said[3];
+static uint32_t *const records = said + 1;
+#define UNSAID 0xa5c396f0u
+
+static void keep(void)
+{
+    int which, at;
+
+    for (which = 0; which < FORMS; which++)
+        for (at = 0; at < FORM_ALL; at++)
+            were[which][at] = lent[which][at];
+    said[0] = said[1] = said[2] = UNSAID;
+}
+
+/* Says what is wrong besides a call's code and value. */
+static void blame(int line, const char *what)
+{
+    printf("calls.c:%d: WRONG: %s\n", line, what);
+    wrong++;
+}
+
+/* The number of records must be as it should, and every byte of every form as it was, but for those of the form that the call wrote. */
+static void kept(int line, const char *call, const uint8_t *written, uint32_t count)
+{
+    int which, at, bad = said[0] != UNSAID || said[1] != count || said[2] != UNSAID;
+
+    if (bad)
+        printf("calls.c:%d: the number of records is %x %x %x, and should be %x\n", line, said[0], said[1], said[2], count);
+    for (which = 0; which < FORMS; which++)
+        for (at = 0; at < FORM_ALL; at++) {
+            if (lent[which] + BEFORE == written && at >= BEFORE && at < BEFORE + FORM)
+                continue;
+            if (lent[which][at] != were[which][at]) {
+                printf("calls.c:%d: byte %d of form %d is %02x, and was %02x\n", line, at - BEFORE, which, lent[which][at], were[which][at]);
+                bad = 1;
+            }
+        }
+    if (bad)
+        blame(line, call);
+}
+
+/* Tries a call as above, and looks at the forms: it writes one of them, and says how many records there were. */
+#define FORM_TRY(want, value, written, count, call) (keep(), TRY(want, value, call), kept(__LINE__, #call, (written), (count)))
+
+/* Tries a call that leaves everything as it was. */
+#define STILL_TRY(want, call) FORM_TRY(want, "", NULL, UNSAID, call)
+
+/* The pending bytes of a form must be these, with zeros behind them. */
+static void pending(int line, const uint8_t *form, const uint8_t *left, int count)
+{
+    int at, bad = form[COUNT_AT] != count;
+
+    for (at = 0; at < PENDING; at++)
+        if (form[PENDING_AT + at] != (at < count ? left[at] : 0))
+            bad = 1;
+    if (bad)
+        blame(line, "the pending bytes");
+}
+
+/* Two forms must be the same. */
+static void same(int line, const uint8_t *left, const uint8_t *right)
+{
+    int at, bad = 0;
+
+    for (at = 0; at < FORM; at++)
+        if (left[at] != right[at])
+            bad = 1;
+    if (bad)
+        blame(line, "the forms differ");
+}
+
+/* Starts a form in one of the lent rooms. What stood there is different each time. */
+static void start(uint8_t *form, uint8_t setup)
+{
+    static int turn;
+    int at;
+
+    turn++;
+    for (at = -BEFORE; at < FORM + AFTER; at++)
+        form[at] = pattern(at + turn);
+    FORM_TRY(OK, "", form, UNSAID, hubcrackle_start(setup, form, FORM));
+    pending(__LINE__, form, NULL, 0);
+}
+
+static void copy(uint8_t *to, const uint8_t *from)
+{
+    int at;
+
+    for (at = 0; at < FORM; at++)
+        to[at] = from[at];
+}
+
+/* The answers to the records of a log from one up to another, of those to all. */
+static const char *part(const char *answers, size_t from, size_t to)
+{
+    static char digits[2 * ROOM + 1];
+    size_t at;
+
+    for (at = 0; at < (to - from) * 16; at++)
+        digits[at] = answers[from * 16 + at];
+    digits[at] = 0;
+    return digits;
+}
+
+/* Feeds a form the bytes of a log from one place up to another, with no more room than their answers need. */
+static void feed(uint8_t *form, const uint8_t *log, size_t from, size_t to, const char *answers)
+{
+    const size_t first = from / HUBCRACKLE_RECORD_BYTES, last = to / HUBCRACKLE_RECORD_BYTES, count = last - first;
+    const int before = wrong;
+
+    FORM_TRY(OK, part(answers, first, last), form, (uint32_t)count,
+             hubcrackle_feed(form, FORM, log + from, to - from, out, count * HUBCRACKLE_ANSWER_BYTES, records));
+    pending(__LINE__, form, log + last * HUBCRACKLE_RECORD_BYTES, (int)(to % HUBCRACKLE_RECORD_BYTES));
+    if (wrong != before)
+        printf("calls.c: that was for bytes %d up to %d of a log\n", (int)from, (int)to);
+}
+
+/* A form as hexadecimal digits. */
+static const char *digits_of(const uint8_t *form)
+{
+    static const char hex[] = "0123456789abcdef";
+    static char digits[2 * FORM + 1];
+    int at;
+
+    for (at = 0; at < FORM; at++) {
+        digits[2 * at] = hex[form[at] / 16];
+        digits[2 * at + 1] = hex[form[at] % 16];
+    }
+    return digits;
+}
+
+/* Here the form is the value, and stands in the room. */
+static void starts(void)
+{
+    start(one, 0x20);
+    TRY(OK, digits_of(one), hubcrackle_start(0x20, out, FORM));
+    TRY(OK, digits_of(one), hubcrackle_start(0x20, out, ROOM));
+    TRY(ENOMEM, "", hubcrackle_start(0x20, out, FORM - 1));
+    TRY(ENOMEM, "", hubcrackle_start(0x20, out, 1));
+    TRY(ENOMEM, "", hubcrackle_start(0x20, out, 0));
+    TRY(EINVAL, "", hubcrackle_start(0x21, out, FORM));
+    TRY(EINVAL, "", hubcrackle_start(0x21, out, FORM - 1));
+    TRY(EINVAL, "", hubcrackle_start(0x00, out, 0));
+    start(one, 0x0c);
+    TRY(OK, digits_of(one), hubcrackle_start(0x0c, out, FORM));
+    TRY(ENOMEM, "", hubcrackle_start(0x0c, out, FORM - 1));
+    /* A form that was in use is started anew. */
+    feed(one, zeros, 0, 17, ups(1));
+    FORM_TRY(OK, "", one, UNSAID, hubcrackle_start(0x20, one, FORM + AFTER));
+    start(two, 0x20);
+    same(__LINE__, one, two);
+}
+
+/* All setup bytes: a good one makes the machine that it makes in a run. */
+static void every_setup(void)
+{
+    /* Up of the CPUs 0, 4 and 15; thread 3 on CPU 0, lock 7, and its owner word; thread 5's mask, and with bit 4 on and bit 0 off. */
+    static const head heads[] = { { 0x00 }, { 0x04 }, { 0x0f }, { 0x20, 3 }, { 0x40, 0, 7 }, { 0xb0, 0, 7 }, { 0x70, 5 }, { 0x70, 5, 0, 0, 16 } };
+    uint8_t log[8 * HUBCRACKLE_RECORD_BYTES], answers[8 * HUBCRACKLE_ANSWER_BYTES];
+    int setup, at, bad;
+
+    spread(log, heads, 8);
+    log[7 * HUBCRACKLE_RECORD_BYTES + 11] = 1; /* B */
+    for (setup = 0; setup < 256; setup++) {
+        const int wide = setup & 4, narrow_cpus = setup >= 0x10 && setup < 0x50;
+
+        if (setup % 4 || (!wide && !narrow_cpus)) {
+            TRY(EINVAL, "", hubcrackle_start((uint8_t)setup, out, FORM));
+            TRY(EINVAL, "", hubcrackle_start((uint8_t)setup, out, 0));
+            continue;
+        }
+        start(one, (uint8_t)setup);
+        TRY(OK, digits_of(one), hubcrackle_start((uint8_t)setup, out, FORM));
+        bad = hubcrackle_run((uint8_t)setup, log, sizeof log, answers, sizeof answers) != OK;
+        bad |= hubcrackle_feed(one, FORM, log, sizeof log, out, sizeof answers, records) != OK || *records != 8;
+        for (at = 0; at < (int)sizeof answers; at++)
+            bad |= out[at] != answers[at];
+        if (bad)
+            blame(__LINE__, "a form's answers are not those of a run");
+        calls += 2;
+    }
+}
+
+/* The worked log in one piece, and cut in two at every place: the same answers, and the same form at the end. */
+static void cuts(void)
+{
+    uint8_t log[7 * HUBCRACKLE_RECORD_BYTES];
+    size_t cut;
+
+    spread(log, worked, 7);
+    start(two, 0x20);
+    feed(two, log, 0, sizeof log, worked_answers);
+    for (cut = 0; cut <= sizeof log; cut++) {
+        start(one, 0x20);
+        feed(one, log, 0, cut, worked_answers);
+        feed(one, log, cut, sizeof log, worked_answers);
+        same(__LINE__, one, two);
+    }
+}
+
+/* The worked log byte by byte with nothing between the bytes, and in fragments of every length up to three records. */
+static void short_fragments(void)
+{
+    uint8_t log[7 * HUBCRACKLE_RECORD_BYTES];
+    size_t at, length;
+
+    spread(log, worked, 7);
+    start(two, 0x20);
+    feed(two, log, 0, sizeof log, worked_answers);
+    start(one, 0x20);
+    for (at = 0; at < sizeof log; at++) {
+        feed(one, log, at, at + 1, worked_answers);
+        copy(three, one);
+        feed(one, log, at + 1, at + 1, worked_answers);
+        same(__LINE__, one, three);
+    }
+    same(__LINE__, one, two);
+    for (length = 2; length <= 36; length++) {
+        start(one, 0x20);
+        for (at = 0; at < sizeof log; at += length)
+            feed(one, log, at, at + length < sizeof log ? at + length : sizeof log, worked_answers);
+        same(__LINE__, one, two);
+    }
+}
+
+/* The longest fragment, with nothing pending and with eleven bytes: 2048 records each time. */
+static void longest_fragments(void)
+{
+    start(one, 0x20);
+    FORM_TRY(OK, ups(1), one, 2048, hubcrackle_feed(one, FORM, zeros, HUBCRACKLE_LOG_MAX, out, ROOM, records));
+    pending(__LINE__, one, NULL, 0);
+    FORM_TRY(OK, ups(0), one, 2048, hubcrackle_feed(one, FORM, zeros, HUBCRACKLE_LOG_MAX, out, ROOM, records));
+    start(one, 0x20);
+    FORM_TRY(OK, "", one, 0, hubcrackle_feed(one, FORM, zeros, 11, out, 0, records));
+    STILL_TRY(ENOMEM, hubcrackle_feed(one, FORM, zeros, HUBCRACKLE_LOG_MAX, out, ROOM - 1, records));
+    FORM_TRY(OK, ups(1), one, 2048, hubcrackle_feed(one, FORM, zeros, HUBCRACKLE_LOG_MAX, out, ROOM, records));
+    pending(__LINE__, one, zeros, 11);
+    FORM_TRY(OK, ups(0), one, 2048, hubcrackle_feed(one, FORM, zeros, HUBCRACKLE_LOG_MAX, out, ROOM, records));
+    pending(__LINE__, one, zeros, 11);
+    FORM_TRY(OK, "ffffff8e00000000", one, 1, hubcrackle_feed(one, FORM, zeros, 1, out, 8, records));
+    STILL_TRY(OK, hubcrackle_finish(one, FORM));
+}
+
+/* A log of 10,002 records: thread 3 on CPU 0 takes each lock in turn, nested, and gives it back twice. */
+static void long_log(void)
+{
+    enum { LONG = 10002 };
+    static const head up = { 0x00 }, put = { 0x20, 3 };
+    static const char depths[] = "1210";
+    static uint8_t log[LONG * HUBCRACKLE_RECORD_BYTES];
+    static char answers[LONG * 16 + 1];
+    size_t at, end;
+
+    for (at = 0; at < LONG * 16; at++)
+        answers[at] = at >= 32 && at % 16 == 15 ? depths[(at / 16 - 2) % 4] : '0';
+    spread(log, &up, 1);
+    spread(log + HUBCRACKLE_RECORD_BYTES, &put, 1);
+    for (at = 2; at < LONG; at++) {
+        const size_t turn = (at - 2) % 4;
+        const head next = { (uint8_t)(turn < 2 ? 0x40 : 0x60), 0, (uint8_t)((at - 2) / 4 % 128), 0, (uint8_t)(turn == 1) };
+
+        spread(log + at * HUBCRACKLE_RECORD_BYTES, &next, 1);
+    }
+    start(one, 0x20);
+    for (at = 0; at < sizeof log; at = end) {
+        end = at + 1000 < sizeof log ? at + 1000 : sizeof log;
+        feed(one, log, at, end, answers);
+    }
+    STILL_TRY(OK, hubcrackle_finish(one, FORM));
+    /* Every lock was given back, and thread 3 is still there: so it is after the first two records. */
+    start(two, 0x20);
+    feed(two, log, 0, 24, answers);
+    same(__LINE__, one, two);
+}
+
+/* Too little room. The fragment is then taken with more, or in smaller parts. */
+static void short_rooms(void)
+{
+    uint8_t log[7 * HUBCRACKLE_RECORD_BYTES];
+
+    spread(log, worked, 7);
+    start(one, 0x20);
+    STILL_TRY(ENOMEM, hubcrackle_feed(one, FORM, log, sizeof log, out, 55, records));
+    STILL_TRY(ENOMEM, hubcrackle_feed(one, FORM, log, sizeof log, out, 0, records));
+    STILL_TRY(ENOMEM, hubcrackle_feed(one, FORM, log, 12, out, 7, records));
+    feed(one, log, 0, 11, worked_answers);
+    /* One byte completes a record. */
+    STILL_TRY(ENOMEM, hubcrackle_feed(one, FORM, log + 11, 1, out, 7, records));
+    STILL_TRY(ENOMEM, hubcrackle_feed(one, FORM, log + 11, 1, out, 0, records));
+    FORM_TRY(OK, "0000000000000000", one, 1, hubcrackle_feed(one, FORM, log + 11, 1, out, 8, records));
+    feed(one, log, 12, 17, worked_answers);
+    /* These complete three, and those of the smaller parts one and two. */
+    STILL_TRY(ENOMEM, hubcrackle_feed(one, FORM, log + 17, 31, out, 23, records));
+    feed(one, log, 17, 30, worked_answers);
+    STILL_TRY(ENOMEM, hubcrackle_feed(one, FORM, log + 30, 18, out, 15, records));
+    feed(one, log, 30, 48, worked_answers);
+    /* More room than is needed. */
+    FORM_TRY(OK, part(worked_answers, 4, 7), one, 3, hubcrackle_feed(one, FORM + AFTER, log + 48, 36, out, ROOM, records));
+    FORM_TRY(OK, "", one, 0, hubcrackle_feed(one, FORM, log, 7, out, ROOM, records));
+    pending(__LINE__, one, log, 7);
+}
+
+/* Fragments that are too long: that is said before ENOMEM. */
+static void overflows(void)
+{
+    start(one, 0x20);
+    STILL_TRY(EOVERFLOW, hubcrackle_feed(one, FORM, zeros, HUBCRACKLE_LOG_MAX + 1, out, ROOM, records));
+    STILL_TRY(EOVERFLOW, hubcrackle_feed(one, FORM, zeros, HUBCRACKLE_LOG_MAX + 12, out, ROOM, records));
+    STILL_TRY(EOVERFLOW, hubcrackle_feed(one, FORM, zeros, HUBCRACKLE_LOG_MAX + 1, out, ROOM - 1, records));
+    STILL_TRY(EOVERFLOW, hubcrackle_feed(one, FORM, zeros, HUBCRACKLE_LOG_MAX + 1, out, 0, records));
+    STILL_TRY(ENOMEM, hubcrackle_feed(one, FORM, zeros, HUBCRACKLE_LOG_MAX, out, ROOM - 1, records));
+    FORM_TRY(OK, "", one, 0, hubcrackle_feed(one, FORM, zeros, 5, out, ROOM, records));
+    STILL_TRY(EOVERFLOW, hubcrackle_feed(one, FORM, zeros, HUBCRACKLE_LOG_MAX + 1, out, ROOM, records));
+    STILL_TRY(EOVERFLOW, hubcrackle_feed(one, FORM, zeros, HUBCRACKLE_LOG_MAX + 12, out, 0, records));
+    STILL_TRY(ENOMEM, hubcrackle_feed(one, FORM, zeros, HUBCRACKLE_LOG_MAX, out, 0, records));
+    FORM_TRY(OK, ups(1), one, 2048, hubcrackle_feed(one, FORM, zeros, HUBCRACKLE_LOG_MAX, out, ROOM, records));
+}
+
+/* No form: every call says EINVAL, and feed says it before EOVERFLOW and ENOMEM. */
+static void no_form(const uint8_t *left, size_t form_len)
+{
+    copy(one, left);
+    STILL_TRY(EINVAL, hubcrackle_feed(one, form_len, zeros, 0, out, 0, records));
+    STILL_TRY(EINVAL, hubcrackle_feed(one, form_len, zeros, 12, out, 8, records));
+    STILL_TRY(EINVAL, hubcrackle_feed(one, form_len, zeros, 12, out, 0, records));
+    STILL_TRY(EINVAL, hubcrackle_feed(one, form_len, zeros, HUBCRACKLE_LOG_MAX, out, ROOM, records));
+    STILL_TRY(EINVAL, hubcrackle_feed(one, form_len, zeros, HUBCRACKLE_LOG_MAX + 1, out, ROOM, records));
+    STILL_TRY(EINVAL, hubcrackle_feed(one, form_len, zeros, HUBCRACKLE_LOG_MAX + 1, out, 0, records));
+    STILL_TRY(EINVAL, hubcrackle_finish(one, form_len));
+}
+
+static void short_forms(void)
+{
+    start(one, 0x20);
+    start(two, 0x20);
+    no_form(two, FORM - 1);
+    no_form(two, FORM - 12);
+    no_form(two, 1);
+    no_form(two, 0);
+    FORM_TRY(OK, "0000000000000000", one, 1, hubcrackle_feed(one, FORM, zeros, 12, out, 8, records));
+    STILL_TRY(OK, hubcrackle_finish(one, FORM + AFTER));
+}
+
+/* A good form of which one byte is another. */
+static void spoilt(uint8_t setup, int at, uint8_t byte)
+{
+    const int before = wrong;
+
+    start(one, setup);
+    start(two, setup);
+    FORM_TRY(OK, "", two, 0, hubcrackle_feed(two, FORM, zeros, 7, out, 0, records));
+    two[at] = byte;
+    no_form(two, FORM);
+    no_form(two, FORM + AFTER);
+    if (wrong != before)
+        printf("calls.c: that was for byte %d as %02x\n", at, byte);
+}
+
+static void spoilt_forms(void)
+{
+    int at;
+
+    /* How many bytes are pending. */
+    spoilt(0x20, COUNT_AT, 12);
+    spoilt(0x20, COUNT_AT, 13);
+    spoilt(0x20, COUNT_AT, 128);
+    spoilt(0x20, COUNT_AT, 255);
+    /* The number of CPUs, in bytes 0 to 3: none, five without and seventeen with wide tags, and 2 to the power 24 and more. */
+    spoilt(0x20, 3, 0);
+    spoilt(0x20, 3, 5);
+    spoilt(0x04, 3, 17);
+    spoilt(0x20, 0, 1);
+    /* The end of the last lock's owner word, where nobody holds it. */
+    spoilt(0x20, PENDING_AT - 1, 4);
+    /* Bytes that no call has written: none of the CPUs, and too many. */
+    for (at = 0; at < FORM; at++)
+        two[at] = 0;
+    no_form(two, FORM);
+    for (at = 0; at < FORM; at++)
+        two[at] = 0xff;
+    no_form(two, FORM);
+}
+
+/* What stands behind the pending bytes is not asked, and is zero when a feed was accepted, also of no bytes. */
+static void zeros_behind(void)
+{
+    uint8_t log[7 * HUBCRACKLE_RECORD_BYTES];
+    int at, count;
+
+    spread(log, worked, 7);
+    for (count = 0; count <= PENDING; count++) {
+        start(one, 0x20);
+        feed(one, log, 0, 24, worked_answers);
+        feed(one, log, 24, 24 + (size_t)count, worked_answers);
+        copy(two, one);
+        for (at = count; at < PENDING; at++)
+            one[PENDING_AT + at] = 0xee;
+        STILL_TRY(count == 0 ? OK : EINVAL, hubcrackle_finish(one, FORM));
+        STILL_TRY(EOVERFLOW, hubcrackle_feed(one, FORM, zeros, HUBCRACKLE_LOG_MAX + 1, out, 0, records));
+        copy(three, one);
+        FORM_TRY(OK, "", one, 0, hubcrackle_feed(one, FORM, zeros, 0, out, 0, records));
+        same(__LINE__, one, two);
+        feed(three, log, 24 + (size_t)count, sizeof log, worked_answers);
+    }
+}
+
+/* The end of a log: between records, and inside one, after which feeding goes on. */
+static void finishes(void)
+{
+    uint8_t log[7 * HUBCRACKLE_RECORD_BYTES];
+    size_t at;
+
+    spread(log, worked, 7);
+    start(one, 0x20);
+    STILL_TRY(OK, hubcrackle_finish(one, FORM));
+    for (at = 0; at < sizeof log; at++) {
+        feed(one, log, at, at + 1, worked_answers);
+        STILL_TRY((at + 1) % HUBCRACKLE_RECORD_BYTES == 0 ? OK : EINVAL, hubcrackle_finish(one, FORM));
+    }
+    STILL_TRY(OK, hubcrackle_finish(one, FORM + AFTER));
+    STILL_TRY(EINVAL, hubcrackle_finish(one, FORM - 1));
+    start(two, 0x20);
+    feed(two, log, 0, sizeof log - 5, worked_answers);
+    STILL_TRY(EINVAL, hubcrackle_finish(two, FORM));
+    STILL_TRY(EINVAL, hubcrackle_finish(two, FORM));
+    feed(two, log, sizeof log - 5, sizeof log, worked_answers);
+    STILL_TRY(OK, hubcrackle_finish(two, FORM));
+    STILL_TRY(OK, hubcrackle_finish(one, FORM));
+    same(__LINE__, one, two);
+}
+
+/* A narrow machine and a wide one are fed in turn. */
+static void two_forms(void)
+{
+    /* As in wide_logs. */
+    static const head last_cpu[] = { { 0x0f }, { 0x2f, 3 }, { 0x4f, 0, 7 }, { 0xb0, 0, 7 }, { 0x3f, 3 }, { 0xcf, 3 }, { 0x3f, 3 } };
+    static const char answers[] = "0000000000000000"
+                                  "0000000000000000"
+                                  "0000000000000001"
+                                  "000000000000004f"
+                                  "fffffff000000000"
+                                  "0000000000000001"
+                                  "0000000000000000";
+    uint8_t narrow[7 * HUBCRACKLE_RECORD_BYTES], wide[7 * HUBCRACKLE_RECORD_BYTES];
+    size_t at, left, right;
+
+    spread(narrow, worked, 7);
+    spread(wide, last_cpu, 7);
+    start(one, 0x20);
+    start(two, 0x04);
+    /* Seven bytes to the one and five to the other, and at the end what is left. */
+    for (at = 0; at < 12; at++) {
+        left = at * 7;
+        right = at * 5;
+        feed(one, narrow, left, left + 7, worked_answers);
+        feed(two, wide, right, at == 11 ? sizeof wide : right + 5, answers);
+    }
+    STILL_TRY(OK, hubcrackle_finish(one, FORM));
+    STILL_TRY(OK, hubcrackle_finish(two, FORM));
+}
+
+/* A copy goes on by itself: the one is fed the rest of the log, one copy the same, and the other another rest. */
+static void copies(void)
+{
+    uint8_t log[7 * HUBCRACKLE_RECORD_BYTES];
+
+    spread(log, worked, 7);
+    start(one, 0x20);
+    start(two, 0x20);
+    start(three, 0x20);
+    feed(one, log, 0, 40, worked_answers);
+    copy(two, one);
+    copy(three, one);
+    feed(one, log, 40, sizeof log, worked_answers);
+    /* Pending is the beginning of an acquire, which is plain here, and the lock is this CPU's. */
+    FORM_TRY(OK, "ffffffd300000001", two, 1, hubcrackle_feed(two, FORM, zeros, 8, out, 8, records));
+    feed(three, log, 40, 59, worked_answers);
+    /* A release: the lock is one deep in the copy, and two deep in the other before its last record. */
+    FORM_TRY(OK, "0000000000000000", two, 1, hubcrackle_feed(two, FORM, log + 72, 12, out, 8, records));
+    STILL_TRY(EINVAL, hubcrackle_finish(three, FORM));
+    STILL_TRY(OK, hubcrackle_finish(one, FORM));
+    STILL_TRY(OK, hubcrackle_finish(two, FORM));
+    feed(three, log, 59, sizeof log, worked_answers);
+    same(__LINE__, one, three);
 }
 
 int main(void)
@@ -556,6 +1056,20 @@ int main(void)
     wide_logs();
     pins();
     longest_log();
+    starts();
+    every_setup();
+    cuts();
+    short_fragments();
+    longest_fragments();
+    long_log();
+    short_rooms();
+    overflows();
+    short_forms();
+    spoilt_forms();
+    zeros_behind();
+    finishes();
+    two_forms();
+    copies();
     printf("%d calls, %d wrong\n", calls, wrong);
     return wrong != 0;
 }

@@ -13,3 +13,5 @@ pub mod FormerRows
 pub mod OneAcquire
 pub mod PinnedThread
 pub mod SelfDeadlock
+pub mod Cuts
+pub mod LongCuts

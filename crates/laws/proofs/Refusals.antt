@@ -1,9 +1,11 @@
--- What is refused changes nothing: no lock, CPU or thread of a machine, no byte of lent room, no lent record. Of a record, a step and a run it
--- holds on every machine, well-formed or not; of an exported call with whatever input.
+-- What is refused changes nothing: no lock, CPU or thread of a machine, no byte of lent room, no lent record, no form. Of a record, a step, a run
+-- and a feed it holds on every machine, well-formed or not; of an exported call with whatever input.
 --
 -- `answered` and `next` stand in operations/specs/Asked.antt, `step` in runner/specs/Step.antt, `ran` and `ranRoom` in runner/specs/Run.antt,
--- `callCode` and `callRoom`, by which nine exported calls answer, in lent_room/specs/Room.antt, the tenth's rule in setup_run/specs/Run.antt.
--- The proofs are in operations/proofs/Refused.antt, runner/proofs/Refused.antt, setup_run/proofs/Cases.antt and in_place/proofs/Laws.antt.
+-- `callCode` and `callRoom`, by which nine exported calls answer, in lent_room/specs/Room.antt, the rule of the exported runner in
+-- setup_run/specs/Run.antt, and those of the exported start and feed in form_bytes/specs/Form.antt. Finish writes nothing. `fed` and `fedRoom` stand
+-- in feed/specs/Feed.antt. The proofs are in operations/proofs/Refused.antt, runner/proofs/Refused.antt, cuts/proofs/Whole.antt,
+-- setup_run/proofs/Cases.antt, form_bytes/proofs/Refused.antt and in_place/proofs/Laws.antt.
 -- Assumes nothing.
 use mathlib.Core.Path.{_≡_, ap, sym, _∙_}
 use mathlib.Core.Bool.{false, false≢true}
@@ -25,6 +27,11 @@ use Rattle.runner.proofs.Refused as Runner
 use Rattle.setup_run.specs.Run.{codeFromSetup, roomFromSetup}
 use Rattle.setup_run.proofs.Cases.{refused-writes-nothing}
 use Rattle.lent_room.specs.Room.{callCode, callRoom}
+use Rattle.feed.specs.declared.Form.{Form}
+use Rattle.feed.specs.Feed.{fed, fedRoom}
+use Rattle.cuts.proofs.Whole as Whole
+use Rattle.form_bytes.specs.Form.{startCode, startRoom, fedCode, formAfter, roomAfter}
+use Rattle.form_bytes.proofs.Refused.{refused-start, refused-feed}
 use Rattle.in_place.proofs.Laws.{refused-leaves}
 
 module _ (m : Machine) where
@@ -49,6 +56,20 @@ call-refused a room e = rw e
 -- The exported runner.
 pub run-call-refused : (setup : ℕ) (log room : List ℕ) → isOK (codeFromSetup setup log (length room)) ≡ false → roomFromSetup setup log room ≡ room
 run-call-refused = refused-writes-nothing
+
+-- The exported start: every byte that was to be the form stays. The exported feed: every byte of the form and of the answer room stays; by its
+-- contract so does the number of records.
+pub start-call-refused : (setup : ℕ) (form : List ℕ) → isOK (startCode setup (length form)) ≡ false → startRoom setup form ≡ form
+start-call-refused = refused-start
+
+pub feed-call-refused : (form fragment room : List ℕ) → isOK (fedCode form fragment (length room)) ≡ false
+    → (formAfter form fragment (length room) ≡ form) × (roomAfter form fragment room ≡ room)
+feed-call-refused = refused-feed
+
+-- A feed: the form and the answer room stay, and no record was run.
+pub feed-refused : (f : Form) (fragment room : List ℕ) → isOK (fed f fragment (length room) .code) ≡ false
+    → (fed f fragment (length room) .value ≡ (f, 0)) × (fedRoom f fragment room ≡ room)
+feed-refused = Whole.refused-feed
 
 -- A call in place: by its contract the code and the record after it are what the rule gives of the record before it.
 pub in-place-refused : (op : Operation) (before after : SpinlockState) (tid : ℕ) (code : Code)

@@ -1,2 +1,3 @@
-mod Codes
+pub mod Codes
+pub mod FeedCodes
 pub mod Accepted

@@ -1,1 +1,2 @@
 pub mod RunCode
+pub mod FeedCode

@@ -5,8 +5,8 @@ use mathlib.Core.List.{List, _++_}
 use Prim.Native.Nat.{ℕ, zero, suc, _+_, _*_, _≤_}
 use native.Mathlib.Nat.{add-suc, add-zero, add-mul}
 use native.Mathlib.Omega.{arith}
-use lib.ListN.{length, take, drop, length-drop}
-use lib.Seq.{take-append-le, drop-append-le, drop-append-seam, drop-drop}
+use lib.ListN.{length, take, drop, length-drop, take-append-drop}
+use lib.Seq.{length-take-le, take-append-le, drop-append-le, drop-append-seam, drop-drop}
 use Rattle.machine.specs.declared.Machine.{Machine}
 use Rattle.operations.specs.Asked.{answered, next}
 use Rattle.operations.specs.Log.{recordAt, stateAt, answerAt}
@@ -25,6 +25,16 @@ module _ (m : Machine) (xs ys : List ℕ) where
 
   pub answer-front : (k : ℕ) → k * 12 + 12 ≤ length xs → answerAt m (xs ++ ys) k ≡ answerAt m xs k
   answer-front k long = ap₂ answered (state-front k (omega arith)) (record-front k long)
+
+-- So the first k records may as well be the whole log.
+pub whole-of : {A : Type 0} (of : List ℕ → A) (log : List ℕ) (k : ℕ) → k * 12 ≤ length log
+    → ((xs ys : List ℕ) → k * 12 ≤ length xs → of (xs ++ ys) ≡ of xs) → of log ≡ of (take (k * 12) log)
+whole-of of log k long front =
+    ap of (sym (take-append-drop (k * 12) log))
+    ∙ front (take (k * 12) log) (drop (k * 12) log) (omega (arith, length-take-le (k * 12) log long))
+
+pub state-alone : (m : Machine) (log : List ℕ) (k : ℕ) → k * 12 ≤ length log → stateAt m log k ≡ stateAt m (take (k * 12) log) k
+state-alone m log k long = whole-of (λ l. stateAt m l k) log k long (λ xs ys. state-front m xs ys k)
 
 -- Behind a whole records.
 module _ (m : Machine) (xs ys : List ℕ) (a : ℕ) (whole : length xs ≡ a * 12) where

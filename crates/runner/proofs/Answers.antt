@@ -12,7 +12,7 @@ use Rattle.error.specs.Answer.{Answer}
 use Rattle.machine.specs.declared.Machine.{Machine}
 use Rattle.answers.specs.Answer.{answerBytes, written}
 use Rattle.operations.specs.Log.{stateAt, answerAt}
-use Rattle.operations.proofs.Pieces.{answer-front, answer-pieces}
+use Rattle.operations.proofs.Pieces.{answer-front, whole-of, answer-pieces}
 use Rattle.runner.specs.Run.{writtenAt, roomAt, answersOf}
 
 abbrev bytesOf : Answer ℕ → List ℕ
@@ -57,6 +57,19 @@ unfolding answersOf
 answers-front m xs ys zero long = refl
 answers-front m xs ys (suc k) long =
     ap₂ (λ x a. x ++ bytesOf a) (answers-front m xs ys k (omega arith)) (answer-front m xs ys k (omega arith))
+
+pub answers-alone : (m : Machine) (log : List ℕ) (k : ℕ) → k * 12 ≤ length log → answersOf m log k ≡ answersOf m (take (k * 12) log) k
+answers-alone m log k long = whole-of (λ l. answersOf m l k) log k long (λ xs ys. answers-front m xs ys k)
+
+-- The room after them likewise, and so the first k records may as well be the whole log.
+room-front : (m : Machine) (room : List ℕ) (k : ℕ) (xs ys : List ℕ) → k * 12 ≤ length xs → roomAt m (xs ++ ys) room k ≡ roomAt m xs room k
+unfolding roomAt
+room-front m room zero xs ys long = refl
+room-front m room (suc k) xs ys long =
+    ap₂ (λ a r. writtenAt (k * 8) a r) (answer-front m xs ys k (omega arith)) (room-front m room k xs ys (omega arith))
+
+pub room-alone : (m : Machine) (log room : List ℕ) (k : ℕ) → k * 12 ≤ length log → roomAt m log room k ≡ roomAt m (take (k * 12) log) room k
+room-alone m log room k long = whole-of (λ l. roomAt m l room k) log k long (room-front m room k)
 
 -- Behind a whole records.
 module _ (m : Machine) (xs ys : List ℕ) (a : ℕ) (whole : length xs ≡ a * 12) where

@@ -6,6 +6,7 @@
 // the machine, and a refused run every byte.
 ghost use mathlib.Core.Path.{_≡_};
 ghost use mathlib.Core.Bool.{true};
+ghost use mathlib.Core.List.{_++_};
 ghost use Prim.Native.Nat.{_+_, _*_, _/_, _≤_};
 ghost use lib.ListN.{length};
 ghost use Rattle.machine.specs.State.{setupOk};
@@ -168,4 +169,21 @@ pub fn run(m: Machine, log: &[u8], out: &mut [u8]) -> Ran
     let last = run_records(m, log, out);
     let machine = last.machine;
     Ran { code, machine }
+}
+
+// A log whose first record is lent apart from the others, which stand behind it: what `run` says of the two as one log.
+pub fn run_joined(m: Machine, first: [u8; RECORD_BYTES], others: &[u8], out: &mut [u8]) -> Ran
+    ensures machine { λ r. ⌜ ranSays r ≡ ran m (first ++ now (others .entry)) (length (now (out .entry))) ⌝ }
+    ensures room { λ _. ⌜ now (out .exit) ≡ ranRoom m (first ++ now (others .entry)) (now (out .entry)) ⌝ }
+{
+    let size = RECORD_BYTES + others.len();
+    let code = log_tests::run_code(wellformed::well_formed(m), size, out.len());
+    if !error::is_ok(code) {
+        return Ran { code, machine: m };
+    }
+    let begun = run_records(m, &first, out);
+    let after_first = begun.machine;
+    let last = run_records(after_first, others, &mut out[ANSWER_BYTES..]);
+    let end = last.machine;
+    Ran { code, machine: end }
 }

@@ -1,4 +1,7 @@
-// Replays stored logs and stored calls by the proved library and compares every byte of the answers. A line for each case says how it went.
+// Replays stored logs and stored calls by the proved library and compares every byte of the answers. A line for each case says how it went, and
+// for a log a second line says how it went in pieces.
+mod pieces;
+
 ghost use Prim.Native.Nat.{_+_, _*_, _≤_, _<_};
 ghost use lib.ListN.{length};
 use libc::STDOUT_FILENO;
@@ -122,6 +125,11 @@ fn long_at(s: &[u8], at: usize) -> u64
     word_at(s, at) as u64 * 0x1_0000_0000 + word_at(s, at + 4) as u64
 }
 
+// The bytes up to a place, or all.
+fn front_of(s: &[u8], end: usize) -> &[u8] {
+    if end <= s.len() { &s[..end] } else { s }
+}
+
 // The bytes from a place on, or none.
 fn rest_of(s: &[u8], at: usize) -> &[u8] {
     if at <= s.len() { &s[at..] } else { &s[..0] }
@@ -185,10 +193,18 @@ fn judge(calls: bool, input: &[u8], n: usize, expected: &[u8], k: usize) {
     compare(input, n, expected, k);
 }
 
+// The log of an input once more, in pieces.
+fn in_pieces(name: &[u8], input: &[u8], n: usize, expected: &[u8], k: usize) {
+    put(name);
+    put(b" in pieces");
+    verdict(pieces::as_expected(front_of(input, n), front_of(expected, k)));
+}
+
 // One line: a name, an input and its answers.
 fn case(line: &[u8], calls: bool) {
     let a = find(line, 0, b' ');
-    put(&line[..a]);
+    let name = front_of(line, a);
+    put(name);
     if a < line.len() {
         let rest = a + 1;
         let b = find(line, rest, b' ');
@@ -199,6 +215,9 @@ fn case(line: &[u8], calls: bool) {
             let mut expected = [0u8; 16384];
             let k = unhex(&line[last..], &mut expected);
             judge(calls, &input, n, &expected, k);
+            if !calls {
+                in_pieces(name, &input, n, &expected, k);
+            }
             return;
         }
     }
