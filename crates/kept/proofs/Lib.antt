@@ -14,4 +14,5 @@ pub mod Walk
 pub mod Locked
 pub mod Unwinds
 pub mod Ranges
+pub mod Fresh
 pub mod Laws
