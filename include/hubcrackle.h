@@ -1,17 +1,20 @@
 /*
  * Hubcrackle: spinlock, affinity and interrupt rules for a C kernel.
  *
- * Link target/staticlib/libkernel.a, which `rt staticlib kernel` writes for x86-64, and for hubcrackle_start, hubcrackle_feed and hubcrackle_finish
- * target/staticlib/libkernel_form.a too, which `rt staticlib kernel_form` writes. The functions allocate nothing, keep no state between calls and
- * call nothing but memcpy, so any number of CPUs may be in them at once.
+ * Link target/staticlib/libkernel.a, which `rt staticlib kernel` writes for x86-64; for hubcrackle_start, hubcrackle_feed and hubcrackle_finish
+ * target/staticlib/libkernel_form.a too, which `rt staticlib kernel_form` writes; and for hubcrackle_check target/staticlib/libkernel_check.a, which
+ * `rt staticlib kernel_check` writes. None of the three needs another. The functions allocate nothing, keep no state between calls and call nothing
+ * but memcpy, and hubcrackle_check memset, so any number of CPUs may be in them at once.
  *
  * The archives are plain System V x86-64 code: they may use SSE registers and the 128 bytes below the stack pointer. Call them where both are
- * allowed. As built now, hubcrackle_run takes about 10,800 bytes of stack, hubcrackle_feed 35,500, hubcrackle_start 11,900 and hubcrackle_finish
- * 11,700, and every other function less than 512. Their machine, with sixteen CPU slots in either width, has 3,912 bytes, and is held by value.
+ * allowed. As built now, hubcrackle_run takes about 10,800 bytes of stack, hubcrackle_feed 35,500, hubcrackle_start 11,900, hubcrackle_finish 11,700
+ * and hubcrackle_check 30,200, and every other function less than 512. Their machine, with sixteen CPU slots in either width, has 3,912 bytes,
+ * and is held by value.
  *
  * Every function works in the same way.
  *
- *   - It returns a code: HUBCRACKLE_OK, or a negative number that says why it refused.
+ *   - It returns a code: HUBCRACKLE_OK, or a negative number that says why it refused. hubcrackle_check alone, which has no `out`, has a third kind,
+ *     HUBCRACKLE_DIFFERS, which is positive and goes with a number: compare its code with HUBCRACKLE_OK, and do not ask whether it is negative.
  *   - On HUBCRACKLE_OK its value stands over the front of `out`, most significant byte first, in as many bytes as the function says. Bytes
  *     of `out` past the value stay as they were. `out` may be longer than needed.
  *   - On any other code no byte of `out` has changed, and there is no value.
@@ -21,8 +24,8 @@
  * The bytes belong to the caller, who lends them for the time of the call; no pointer is kept. A pointer is never NULL, also where its length
  * is 0, and points to at least as many bytes as its length says. `out` does not overlap what the same call reads.
  *
- * That each function returns the code and leaves the bytes that its rule gives, for every argument, is proved: crates/kernel and crates/kernel_form
- * have the contracts.
+ * That each function returns the code and leaves the bytes that its rule gives, for every argument, is proved: crates/kernel, crates/kernel_form and
+ * crates/kernel_check have the contracts.
  */
 #ifndef HUBCRACKLE_H
 #define HUBCRACKLE_H
@@ -30,8 +33,9 @@
 #include <stddef.h>
 #include <stdint.h>
 
-/* Codes. The numbers are Zephyr's. The single calls give OK, ENOMEM and EINVAL, and hubcrackle_run and hubcrackle_feed return EOVERFLOW too. The
- * answer to one record of a log can have any of these but ENOMEM and EOVERFLOW. */
+/* Codes. The numbers are Zephyr's. The single calls give OK, ENOMEM and EINVAL, and hubcrackle_run and hubcrackle_feed return EOVERFLOW too.
+ * hubcrackle_check gives OK, EINVAL, EOVERFLOW and HUBCRACKLE_DIFFERS. The answer to one record of a log can have any of these but ENOMEM and
+ * EOVERFLOW. */
 #define HUBCRACKLE_OK 0
 #define HUBCRACKLE_EPERM (-1)       /* not the owner; thread not on that CPU */
 #define HUBCRACKLE_ENOMEM (-12)     /* `out` is too short for the value */
@@ -40,6 +44,10 @@
 #define HUBCRACKLE_EDEADLK (-45)    /* the asking CPU itself holds the lock */
 #define HUBCRACKLE_EALREADY (-114)  /* CPU already up, or already down */
 #define HUBCRACKLE_EOVERFLOW (-139) /* log or fragment over HUBCRACKLE_LOG_MAX bytes */
+
+/* What hubcrackle_check returns, and no other call, where it judged a claim and an answer differs: neither OK nor a refusal, and no number of
+ * Zephyr's. */
+#define HUBCRACKLE_DIFFERS 1
 
 /* How many bytes a value has in `out`. */
 #define HUBCRACKLE_WORD_BYTES 8   /* an owner word */
@@ -206,6 +214,28 @@ int32_t hubcrackle_feed(uint8_t *form, size_t form_len, const uint8_t *fragment,
 /* The end of a log. It has no value and changes nothing, so feeding may go on after it. EINVAL: form_len is below HUBCRACKLE_FORM_BYTES; no form; the
  * log ends inside a record. The records that were run stand. */
 int32_t hubcrackle_finish(const uint8_t *form, size_t form_len);
+
+/*
+ * Claimed answers to a log.
+ */
+
+/* Whether claimed answers to a log are the right ones, byte for byte. It is for a controller that was sold, which has recorded a log and the answers
+ * that it gave: the rules of this archive judge them, and the archive is libkernel_check.a. Setup byte, records and answers are those of
+ * hubcrackle_run. `claim` has HUBCRACKLE_ANSWER_BYTES for each record, in the order that the records have in `log`: what hubcrackle_run writes for
+ * the same setup byte and log is accepted, and nothing else is. An empty log has an empty claim.
+ *
+ * OK: every byte of the claim is right. HUBCRACKLE_DIFFERS: at least one answer differs, and `record` has the number, from 0, of the lowest record
+ * whose answer does. Any other code: the claim was not judged, for one of these reasons, in this order: EINVAL: a bad setup byte. EOVERFLOW: log_len
+ * is above HUBCRACKLE_LOG_MAX. EINVAL: log_len is no multiple of HUBCRACKLE_RECORD_BYTES. EINVAL: claim_len is not HUBCRACKLE_ANSWER_BYTES times the
+ * number of records. There is no ENOMEM, since there is no `out`.
+ *
+ * A caller accepts a claim on HUBCRACKLE_OK and on nothing else. `record` is written with HUBCRACKLE_DIFFERS alone: on OK and on every refusal it
+ * stays as it was. It does not overlap `log` or `claim`.
+ *
+ * What it costs: its memory does not grow with the log. The answers are compared 1,024 at a time, in 30,200 bytes of stack however long the log is.
+ * A right claim to a long log takes about 1.1 times as long as hubcrackle_run of that log, and to a short one half a microsecond more. A wrong one
+ * takes no longer: at most 1,023 records are run behind the one that differs. */
+int32_t hubcrackle_check(uint8_t setup, const uint8_t *log, size_t log_len, const uint8_t *claim, size_t claim_len, uint32_t *record);
 
 #ifdef __cplusplus
 }

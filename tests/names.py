@@ -23,7 +23,8 @@ FOREIGN = {
     "now": "what a reference holds", "entry": "when a function begins", "exit": "when it ends",
     "Option": "a library type of upstream", "Result": "a library type of upstream",
     "self": "a word of the language", "mut": "a word of the language", "inv": "upstream's", ".antt": "the ending of the files of definitions and proofs",
-    "rt": "the kit's command", "od": "a command of the system", "N passed, 0 failed": "the last line of the kit's gate",
+    "rt": "the kit's command", "od": "a command of the system", "xargs": "a command of the system",
+    "N passed, 0 failed": "the last line of the kit's gate",
     "says r ≡ rule args": "the form of a contract, with names that stand for any",
 }
 PATH = re.compile(r"\.?[\w*.-]*/[\w*./-]*|[\w-]+\.(?:antt|rt|rs|py|h|md|txt|edit)")

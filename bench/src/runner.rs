@@ -1,7 +1,10 @@
 //! Times the exported runner against the same rules written for speed in Rust, in one process, and first compares their bytes. Then times the same
-//! logs in fragments against a run.
+//! logs in fragments against a run, and claims to them.
 
 mod baseline;
+#[path = "../../compare/src/checker.rs"]
+mod checker;
+mod claims;
 #[path = "../../compare/src/form.rs"]
 mod form;
 mod fragments;
@@ -40,6 +43,30 @@ struct Goals {
 
 const NARROW_GOALS: Goals = Goals { mixed: 1.2, only: 1.3, unwind: 1.3, empty: 2.0 };
 const WIDE_GOALS: Goals = Goals { mixed: 1.5, only: 1.5, unwind: 1.5, empty: 2.0 };
+
+/// The name of the row whose logs have every kind of record.
+const MIXED: &str = "mixed";
+
+/// A row: its name, after the width, its logs, by how much a run's time is divided, and the goal.
+struct Row {
+    width: &'static str,
+    name: String,
+    logs: Vec<Log>,
+    count: usize,
+    goal: f64,
+}
+
+impl Row {
+    /// What is printed of it first.
+    fn title(&self) -> String {
+        format!("{}{}", self.width, self.name)
+    }
+
+    /// Whether its logs have every kind of record.
+    fn is_mixed(&self) -> bool {
+        self.name == MIXED
+    }
+}
 
 fn run(call: Run, log: &Log, out: &mut [u8]) -> i32 {
     // SAFETY: both calls take two slices with their lengths.
@@ -94,12 +121,12 @@ fn times(logs: &[Log]) -> [f64; 2] {
     best
 }
 
-/// Times the logs, prints a row, and says whether the goal is met. `count` is by how much a run's time is divided.
-fn row(name: &str, logs: &[Log], count: usize, goal: f64) -> bool {
-    let (accepted, all) = compare(logs).iter().fold((0, 0), |sum, of| (sum.0 + of.accepted, sum.1 + of.all));
-    let [ours, theirs] = times(logs).map(|time| time / count as f64);
-    let accepted = format!("{accepted}/{all}");
-    println!("{name:<21} {accepted:>12} {ours:>10.2} {theirs:>10.2} {:>7.2} {goal:>5.1}", ours / theirs);
+/// Times the logs of a row, prints it, and says whether the goal is met.
+fn print_row(row: &Row) -> bool {
+    let (accepted, all) = compare(&row.logs).iter().fold((0, 0), |sum, of| (sum.0 + of.accepted, sum.1 + of.all));
+    let [ours, theirs] = times(&row.logs).map(|time| time / row.count as f64);
+    let (title, accepted, goal) = (row.title(), format!("{accepted}/{all}"), row.goal);
+    println!("{title:<21} {accepted:>12} {ours:>10.2} {theirs:>10.2} {:>7.2} {goal:>5.1}", ours / theirs);
     ours / theirs <= goal
 }
 
@@ -117,39 +144,45 @@ fn print_accepted(width: &str, mixed: &[Log]) {
     println!();
 }
 
-/// The rows of a controller, each name after the width, with its mixed logs.
-fn rows<const CPUS: usize>(controller: &Controller<CPUS>, width: &str, goals: &Goals, random: &mut Random) -> (Vec<bool>, Vec<Log>) {
-    let mixed: Vec<_> = (0..LOGS).map(|_| controller.mixed(random)).collect();
-    let mut met = Vec::new();
-    let mut add = |name: &str, logs: &[Log], count, goal| met.push(row(&format!("{width}{name}"), logs, count, goal));
+/// The rows of a controller.
+fn rows<const CPUS: usize>(controller: &Controller<CPUS>, width: &'static str, goals: &Goals, random: &mut Random) -> Vec<Row> {
+    let mixed = (0..LOGS).map(|_| controller.mixed(random)).collect();
+    let mut rows = Vec::new();
+    let mut add = |name: &str, logs: Vec<Log>, count, goal| rows.push(Row { width, name: name.into(), logs, count, goal });
     for (kind, name) in KINDS.iter().enumerate() {
-        let only: Vec<_> = (0..LOGS).map(|_| controller.only(kind, random)).collect();
+        let only = (0..LOGS).map(|_| controller.only(kind, random)).collect();
         let goal = if *name == "unwind" { goals.unwind } else { goals.only };
-        add(&format!("{name} only"), &only, RECORDS, goal);
+        add(&format!("{name} only"), only, RECORDS, goal);
     }
-    add("unwind, running", &vec![controller.unwind_running(); LOGS], RECORDS, goals.unwind);
-    let held: Vec<_> = (0..LOGS).map(|_| controller.held(random)).collect();
-    add("acquire, held", &held, RECORDS, goals.only);
-    let repinned: Vec<_> = (0..LOGS).map(|_| controller.repinned(random)).collect();
-    add("mask, pin-only", &repinned, RECORDS, goals.only);
+    add("unwind, running", vec![controller.unwind_running(); LOGS], RECORDS, goals.unwind);
+    let held = (0..LOGS).map(|_| controller.held(random)).collect();
+    add("acquire, held", held, RECORDS, goals.only);
+    let repinned = (0..LOGS).map(|_| controller.repinned(random)).collect();
+    add("mask, pin-only", repinned, RECORDS, goals.only);
     for (name, pinned) in [("ipi, one CPU", true), ("ipi, all CPUs", false)] {
-        let logs: Vec<_> = (0..LOGS).map(|_| controller.interrupts(pinned, random)).collect();
-        add(name, &logs, RECORDS, goals.only);
+        let logs = (0..LOGS).map(|_| controller.interrupts(pinned, random)).collect();
+        add(name, logs, RECORDS, goals.only);
     }
-    add("mixed", &mixed, RECORDS, goals.mixed);
-    add("empty log", &vec![controller.empty(); LOGS], 1, goals.empty);
-    (met, mixed)
+    add(MIXED, mixed, RECORDS, goals.mixed);
+    add("empty log", vec![controller.empty(); LOGS], 1, goals.empty);
+    rows
+}
+
+/// The mixed logs among the rows of a controller.
+fn mixed_of(rows: &[Row]) -> &[Log] {
+    &rows.iter().find(|row| row.is_mixed()).expect("a row of mixed logs").logs
 }
 
 fn main() {
     let mut random = Random::new(SEED);
+    let narrow = rows(&NARROW, "", &NARROW_GOALS, &mut random);
+    let wide = rows(&WIDE, "wide: ", &WIDE_GOALS, &mut random);
     println!("{LOGS} logs of {RECORDS} records, best of {ROUNDS} rounds; ns a record, and of the empty log ns a run");
     println!("{:<21} {:>12} {:>10} {:>10} {:>7} {:>5}", "log", "accepted", "proved", "baseline", "ratio", "goal");
-    let (mut met, narrow) = rows(&NARROW, "", &NARROW_GOALS, &mut random);
-    let (wide_met, wide) = rows(&WIDE, "wide: ", &WIDE_GOALS, &mut random);
-    met.extend(wide_met);
-    print_accepted("", &narrow);
-    print_accepted("wide ", &wide);
+    let met: Vec<_> = narrow.iter().chain(&wide).map(print_row).collect();
+    print_accepted("", mixed_of(&narrow));
+    print_accepted("wide ", mixed_of(&wide));
     println!("{} of {} logs over their goal", met.iter().filter(|met| !**met).count(), met.len());
-    fragments::print(&narrow, &wide);
+    fragments::print(mixed_of(&narrow), mixed_of(&wide));
+    claims::print(&narrow, &wide);
 }

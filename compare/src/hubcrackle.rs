@@ -34,4 +34,5 @@ unsafe extern "C" {
         records: *mut u32,
     ) -> i32;
     pub fn hubcrackle_finish(form: *const u8, form_len: usize) -> i32;
+    pub fn hubcrackle_check(setup: u8, log: *const u8, log_len: usize, claim: *const u8, claim_len: usize, record: *mut u32) -> i32;
 }

@@ -1,5 +1,5 @@
 //! The lock record, through the runner: the lock of a record is upstream's, as long as every thread stays on its CPU. Each log is run whole, and once
-//! more in fragments.
+//! more in fragments, and claims to it are checked.
 //!
 //! After each call on a lock the log asks for the lock's owner word, so that code, depth and owner are compared. The irq flag is in no answer: on a
 //! well-formed machine, as every step keeps it, it is set exactly while the lock is held. Upstream's flag is held to that.
@@ -8,6 +8,7 @@ use upstream::error::{EBUSY, EDEADLK};
 use upstream::spinlock::{MAX_NEST_DEPTH, SpinlockState};
 use upstream::spinlock_validate::spin_lock_compute_owner;
 
+use crate::claims;
 use crate::differences::Difference;
 use crate::form::Form;
 use crate::ours::{self, OK};
@@ -24,8 +25,9 @@ const ANSWER_BYTES: usize = 8;
 /// Where A's last byte stands in a record: of an acquire whether it is nested.
 const FLAG_AT: usize = 7;
 
-/// The cuts are of a seed of their own, so that they change no log.
+/// The cuts and the claims are of seeds of their own, so that they change no log.
 const CUTS_SEED: u64 = 2;
+const CLAIMS_SEED: u64 = 3;
 /// What the fragments of a log are shorter than: about a record, some records, or all of them.
 const SHORTER: [u64; 4] = [14, 200, 3_000, 24_577];
 
@@ -164,16 +166,24 @@ fn made(tally: &mut Tally, random: &mut Random) -> (Log, u64) {
     (log, full)
 }
 
-/// Holds every log, whole and in fragments; how many fragments there were, which the tally does not count.
-pub fn compare(tally: &mut Tally, random: &mut Random) -> usize {
-    let mut cuts = Random::new(CUTS_SEED);
-    let (mut fragments, mut deepest) = (0, 0);
+/// What is done with the logs besides: in how many fragments they were fed, and how many claims to them were checked.
+#[derive(Default)]
+pub struct Besides {
+    pub fragments: usize,
+    pub claims: usize,
+}
+
+/// Holds every log, whole, in fragments and by claims; how many of these there were, which the tally does not count yet.
+pub fn compare(tally: &mut Tally, random: &mut Random) -> Besides {
+    let (mut cuts, mut claimed) = (Random::new(CUTS_SEED), Random::new(CLAIMS_SEED));
+    let (mut besides, mut deepest) = (Besides::default(), 0);
     for _ in 0..LOGS {
         let (log, full) = made(tally, random);
         log.hold_run();
-        fragments += log.hold_fragments(&mut cuts);
+        besides.fragments += log.hold_fragments(&mut cuts);
+        besides.claims += claims::compare(SETUP, &log.records, &log.answers, &mut claimed);
         deepest += full;
     }
     assert!(deepest > 0, "no log reaches the greatest depth");
-    fragments
+    besides
 }

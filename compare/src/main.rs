@@ -1,7 +1,9 @@
-//! Compares the exported calls with upstream's bodies, their Verus text erased, on the same inputs, and the owner word with a wide tag, of which
-//! upstream has nothing, with a plain account of it. It stops at the first difference that is not in the list of differences.rs, which
-//! docs/DIFFERENCES.md has too.
+//! Compares the exported calls with upstream's bodies, their Verus text erased, on the same inputs, and the owner word with a wide tag and the
+//! checker of claimed answers, of which upstream has nothing, with a plain account of each. It stops at the first difference that is not in the list
+//! of differences.rs, which docs/DIFFERENCES.md has too.
 
+mod checker;
+mod claims;
 mod differences;
 mod form;
 mod hubcrackle;
@@ -19,7 +21,7 @@ mod wide;
 use ours::Judge;
 use random::Random;
 use sample::Sample;
-use tally::Tally;
+use tally::{Kind, Tally};
 
 const SEED: u64 = 1;
 const LEAST_CALLS: u64 = 10_000_000;
@@ -52,9 +54,11 @@ fn main() {
         before = told(part, &judge.tally, before);
     }
     let mut tally = judge.finish();
-    let fragments = lock::compare(&mut tally, &mut random);
+    let besides = lock::compare(&mut tally, &mut random);
     before = told("lock records, through the runner", &tally, before);
-    println!("the same logs in {fragments} fragments: the same answers");
+    println!("the same logs in {} fragments: the same answers", besides.fragments);
+    tally.add(Kind::Claimed, besides.claims as u64);
+    before = told("claimed answers to the same logs, by the checker", &tally, before);
     stored::compare(&mut tally);
     told("lock records, the stored lines of single_calls", &tally, before);
     tally.print();

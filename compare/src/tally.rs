@@ -10,16 +10,18 @@ pub enum Kind {
     Boundary,
     Decoded,
     Wide,
+    Claimed,
     Repeated,
 }
 
 /// What is printed of each kind.
-const KINDS: [&str; 6] = [
+const KINDS: [&str; 7] = [
     "upstream's body ran, and both answers were compared",
     "refused, where upstream's `requires` excludes the call",
     "refused by the C boundary's own tests of flags and CPU bytes",
     "decodings, for which upstream has no body",
     "wide tags, which upstream does not have, by the account in compare/src/wide.rs",
+    "claimed answers, which upstream does not judge, by the account in compare/src/claims.rs",
     "repeats with room for the value alone, for one byte less, or for nothing",
 ];
 
@@ -32,8 +34,13 @@ pub struct Tally {
 
 impl Tally {
     pub fn count(&mut self, kind: Kind) {
-        self.calls += 1;
-        self.kinds[kind as usize] += 1;
+        self.add(kind, 1);
+    }
+
+    /// Counts so many calls of a kind.
+    pub fn add(&mut self, kind: Kind, calls: u64) {
+        self.calls += calls;
+        self.kinds[kind as usize] += calls;
     }
 
     pub fn meet(&mut self, difference: Difference) {

@@ -1,6 +1,7 @@
 /*
  * Calls every exported function as a C kernel does, with arguments that it accepts and arguments that it refuses, and looks at the code, at the
- * value and at every byte around it, also of every form. tests/c/run builds it as C and as C++ and runs both.
+ * value and at every byte around it, also of every form, and of the checker at the record that it names. tests/c/run builds it as C and as C++ and
+ * runs both.
  *
  * It includes nothing of a C library, so that a compiler for another machine needs no headers of one.
  */
@@ -22,6 +23,7 @@ int printf(const char *format, ...);
 #define EDEADLK HUBCRACKLE_EDEADLK
 #define EALREADY HUBCRACKLE_EALREADY
 #define EOVERFLOW HUBCRACKLE_EOVERFLOW
+#define DIFFERS HUBCRACKLE_DIFFERS
 
 enum { BEFORE = 16, ROOM = 16384, AFTER = 16, ALL = BEFORE + ROOM + AFTER };
 
@@ -555,9 +557,10 @@ static uint8_t *const one = lent[0] + BEFORE, *const two = lent[1] + BEFORE, *co
 /* In a form the eleven places for pending bytes, and how many are pending, stand at the end. */
 enum { PENDING_AT = FORM - 12, PENDING = 11, COUNT_AT = FORM - 1 };
 
-/* Where a feed says how many records it ran, between two numbers that it may not touch; what all three are before a call. */
+/* Where a feed says how many records it ran, and the checker which record differs, between two numbers that neither may touch; what all three are
+ * before a call. */
 static uint32_t said[3];
-static uint32_t *const records = said + 1;
+static uint32_t *const records = said + 1, *const record = said + 1;
 #define UNSAID 0xa5c396f0u
 
 static void keep(void)
@@ -577,13 +580,13 @@ static void blame(int line, const char *what)
     wrong++;
 }
 
-/* The number of records must be as it should, and every byte of every form as it was, but for those of the form that the call wrote. */
+/* The number that a call says must be as it should, and every byte of every form as it was, but for those of the form that the call wrote. */
 static void kept(int line, const char *call, const uint8_t *written, uint32_t count)
 {
     int which, at, bad = said[0] != UNSAID || said[1] != count || said[2] != UNSAID;
 
     if (bad)
-        printf("calls.c:%d: the number of records is %x %x %x, and should be %x\n", line, said[0], said[1], said[2], count);
+        printf("calls.c:%d: the number that is said is %x %x %x, and should be %x\n", line, said[0], said[1], said[2], count);
     for (which = 0; which < FORMS; which++)
         for (at = 0; at < FORM_ALL; at++) {
             if (lent[which] + BEFORE == written && at >= BEFORE && at < BEFORE + FORM)
@@ -1042,8 +1045,286 @@ static void copies(void)
     same(__LINE__, one, three);
 }
 
+/* A claim, with room for one answer too many, and the log that it is to, of this many records at most. */
+enum { RECORDS = HUBCRACKLE_LOG_MAX / HUBCRACKLE_RECORD_BYTES };
+static uint8_t claim[ROOM + HUBCRACKLE_ANSWER_BYTES];
+static uint8_t claim_log[HUBCRACKLE_LOG_MAX];
+
+/* Claims what a run of a log answers. Says how long the claim is. */
+static size_t claim_of(uint8_t setup, const uint8_t *log, size_t log_len)
+{
+    const size_t claim_len = log_len / HUBCRACKLE_RECORD_BYTES * HUBCRACKLE_ANSWER_BYTES;
+
+    calls++;
+    if (hubcrackle_run(setup, log, log_len, claim, claim_len) != OK)
+        blame(__LINE__, "a log has no right claim");
+    return claim_len;
+}
+
+/* Tries a claim in which an answer differs: the lowest record of those. */
+#define DIFFERS_TRY(lowest, call) FORM_TRY(DIFFERS, "", NULL, (lowest), call)
+
+/* The worked log: the right claim to it, to its front of any length, and on the machine of another setup. */
+static void right_claims(void)
+{
+    const size_t log_len = spread(claim_log, worked, 7);
+    const size_t claim_len = claim_of(0x20, claim_log, log_len);
+    size_t count;
+
+    STILL_TRY(OK, hubcrackle_check(0x20, claim_log, log_len, claim, claim_len, record));
+    for (count = 0; count < 7; count++)
+        STILL_TRY(OK, hubcrackle_check(0x20, claim_log, count * HUBCRACKLE_RECORD_BYTES, claim, count * HUBCRACKLE_ANSWER_BYTES, record));
+    STILL_TRY(OK, hubcrackle_check(0x04, claim_log, 0, claim, 0, record));
+    /* Four CPUs answer as two do, and pin-only lets thread 3 on CPU 0; a wide machine has another owner word. */
+    STILL_TRY(OK, hubcrackle_check(0x40, claim_log, log_len, claim, claim_len, record));
+    STILL_TRY(OK, hubcrackle_check(0x28, claim_log, log_len, claim, claim_len, record));
+    DIFFERS_TRY(5, hubcrackle_check(0x24, claim_log, log_len, claim, claim_len, record));
+    claim_of(0x24, claim_log, log_len);
+    STILL_TRY(OK, hubcrackle_check(0x24, claim_log, log_len, claim, claim_len, record));
+    DIFFERS_TRY(5, hubcrackle_check(0x20, claim_log, log_len, claim, claim_len, record));
+}
+
+/* The worked log: every bit of its claim is another once; then two bytes are, of every two answers; then all are. */
+static void wrong_claims(void)
+{
+    const size_t log_len = spread(claim_log, worked, 7);
+    const size_t claim_len = claim_of(0x20, claim_log, log_len);
+    size_t at, first, second;
+    int bit;
+
+    for (at = 0; at < claim_len; at++)
+        for (bit = 1; bit < 256; bit *= 2) {
+            claim[at] ^= (uint8_t)bit;
+            DIFFERS_TRY((uint32_t)at / HUBCRACKLE_ANSWER_BYTES, hubcrackle_check(0x20, claim_log, log_len, claim, claim_len, record));
+            claim[at] ^= (uint8_t)bit;
+        }
+    for (second = 1; second < 7; second++)
+        for (first = 0; first < second; first++) {
+            claim[second * HUBCRACKLE_ANSWER_BYTES] ^= 1;
+            claim[first * HUBCRACKLE_ANSWER_BYTES + 7] ^= 1;
+            DIFFERS_TRY((uint32_t)first, hubcrackle_check(0x20, claim_log, log_len, claim, claim_len, record));
+            claim[second * HUBCRACKLE_ANSWER_BYTES] ^= 1;
+            claim[first * HUBCRACKLE_ANSWER_BYTES + 7] ^= 1;
+        }
+    STILL_TRY(OK, hubcrackle_check(0x20, claim_log, log_len, claim, claim_len, record));
+    for (at = 0; at < claim_len; at++)
+        claim[at] ^= 0xff;
+    DIFFERS_TRY(0, hubcrackle_check(0x20, claim_log, log_len, claim, claim_len, record));
+}
+
+/* Claims whose length is not 8 bytes a record, right at their front and wrong there. */
+static void claim_lengths(void)
+{
+    const size_t log_len = spread(claim_log, worked, 7);
+    const size_t claim_len = claim_of(0x20, claim_log, log_len);
+    int turn;
+
+    for (turn = 0; turn < 2; turn++) {
+        STILL_TRY(EINVAL, hubcrackle_check(0x20, claim_log, log_len, claim, claim_len - 1, record));
+        STILL_TRY(EINVAL, hubcrackle_check(0x20, claim_log, log_len, claim, claim_len + 1, record));
+        STILL_TRY(EINVAL, hubcrackle_check(0x20, claim_log, log_len, claim, claim_len - HUBCRACKLE_ANSWER_BYTES, record));
+        STILL_TRY(EINVAL, hubcrackle_check(0x20, claim_log, log_len, claim, claim_len + HUBCRACKLE_ANSWER_BYTES, record));
+        STILL_TRY(EINVAL, hubcrackle_check(0x20, claim_log, log_len, claim, sizeof claim, record));
+        STILL_TRY(EINVAL, hubcrackle_check(0x20, claim_log, log_len, claim, 0, record));
+        STILL_TRY(EINVAL, hubcrackle_check(0x20, claim_log, 0, claim, 1, record));
+        STILL_TRY(EINVAL, hubcrackle_check(0x20, claim_log, 0, claim, HUBCRACKLE_ANSWER_BYTES, record));
+        claim[0] ^= 1;
+    }
+    STILL_TRY(EINVAL, hubcrackle_check(0x20, zeros, HUBCRACKLE_LOG_MAX, claim, ROOM - 1, record));
+    STILL_TRY(EINVAL, hubcrackle_check(0x20, zeros, HUBCRACKLE_LOG_MAX, claim, ROOM + 1, record));
+    STILL_TRY(EINVAL, hubcrackle_check(0x20, zeros, HUBCRACKLE_LOG_MAX, claim, ROOM - HUBCRACKLE_ANSWER_BYTES, record));
+    STILL_TRY(EINVAL, hubcrackle_check(0x20, zeros, HUBCRACKLE_LOG_MAX, claim, ROOM + HUBCRACKLE_ANSWER_BYTES, record));
+}
+
+/* Setups and logs that hubcrackle_run refuses: the setup is judged before the log, and the log before the claim. */
+static void refused_claims(void)
+{
+    const size_t log_len = spread(claim_log, worked, 7);
+    const size_t claim_len = claim_of(0x20, claim_log, log_len);
+
+    STILL_TRY(EINVAL, hubcrackle_check(0x00, claim_log, log_len, claim, claim_len, record));
+    STILL_TRY(EINVAL, hubcrackle_check(0x50, claim_log, log_len, claim, claim_len, record));
+    STILL_TRY(EINVAL, hubcrackle_check(0x21, claim_log, log_len, claim, claim_len, record));
+    STILL_TRY(EINVAL, hubcrackle_check(0x22, claim_log, 0, claim, 0, record));
+    STILL_TRY(EINVAL, hubcrackle_check(0x00, zeros, HUBCRACKLE_LOG_MAX + 1, claim, ROOM, record));
+    STILL_TRY(EINVAL, hubcrackle_check(0x00, zeros, HUBCRACKLE_LOG_MAX + 12, claim, sizeof claim, record));
+    STILL_TRY(EOVERFLOW, hubcrackle_check(0x20, zeros, HUBCRACKLE_LOG_MAX + 1, claim, ROOM, record));
+    STILL_TRY(EOVERFLOW, hubcrackle_check(0x20, zeros, HUBCRACKLE_LOG_MAX + 12, claim, sizeof claim, record));
+    STILL_TRY(EOVERFLOW, hubcrackle_check(0x20, zeros, HUBCRACKLE_LOG_MAX + 12, claim, 0, record));
+    STILL_TRY(EOVERFLOW, hubcrackle_check(0x20, zeros, HUBCRACKLE_LOG_MAX + 12, claim, 1, record));
+    STILL_TRY(EINVAL, hubcrackle_check(0x20, claim_log, log_len - 1, claim, claim_len, record));
+    STILL_TRY(EINVAL, hubcrackle_check(0x20, claim_log, log_len - 1, claim, claim_len - HUBCRACKLE_ANSWER_BYTES, record));
+    STILL_TRY(EINVAL, hubcrackle_check(0x20, claim_log, log_len + 1, claim, claim_len, record));
+    STILL_TRY(EINVAL, hubcrackle_check(0x20, claim_log, 1, claim, 0, record));
+    STILL_TRY(EINVAL, hubcrackle_check(0x20, claim_log, 11, claim, 0, record));
+    STILL_TRY(EINVAL, hubcrackle_check(0x20, zeros, HUBCRACKLE_LOG_MAX - 1, claim, ROOM, record));
+}
+
+/* A number at a place, most significant byte first. */
+static void put_number(uint8_t *at, uint32_t number)
+{
+    at[0] = (uint8_t)(number >> 24);
+    at[1] = (uint8_t)(number >> 16);
+    at[2] = (uint8_t)(number >> 8);
+    at[3] = (uint8_t)number;
+}
+
+/* The longest log: thread 5's mask counts its records, from 0. The value of each answer is the record's number, as long as no record before it was
+ * left out, so that no two answers are the same. */
+static void count_by_mask(void)
+{
+    uint32_t at;
+
+    for (at = 0; at < RECORDS; at++) {
+        uint8_t *const next = claim_log + at * HUBCRACKLE_RECORD_BYTES;
+        const uint32_t before = at == 0 ? UINT32_MAX : at - 1;
+
+        put_number(next, 0x70050000u);
+        put_number(next + 4, at & ~before);
+        put_number(next + 8, before & ~at);
+    }
+}
+
+/* The longest log, whose answers are made here too: only one answer differs, at every place, and then all behind it differ too. */
+static void long_claims(void)
+{
+    uint32_t at;
+
+    count_by_mask();
+    for (at = 0; at < RECORDS; at++) {
+        put_number(claim + at * HUBCRACKLE_ANSWER_BYTES, (uint32_t)OK);
+        put_number(claim + at * HUBCRACKLE_ANSWER_BYTES + 4, at);
+    }
+    STILL_TRY(OK, hubcrackle_check(0x20, claim_log, HUBCRACKLE_LOG_MAX, claim, ROOM, record));
+    for (at = 0; at < RECORDS; at++) {
+        uint8_t *const byte = claim + at * HUBCRACKLE_ANSWER_BYTES + at % HUBCRACKLE_ANSWER_BYTES;
+
+        *byte ^= 0x80;
+        DIFFERS_TRY(at, hubcrackle_check(0x20, claim_log, HUBCRACKLE_LOG_MAX, claim, ROOM, record));
+        *byte ^= 0x80;
+    }
+    STILL_TRY(OK, hubcrackle_check(0x20, claim_log, HUBCRACKLE_LOG_MAX, claim, ROOM, record));
+    for (at = RECORDS; at-- > 0;) {
+        claim[at * HUBCRACKLE_ANSWER_BYTES + at % HUBCRACKLE_ANSWER_BYTES] ^= 1;
+        DIFFERS_TRY(at, hubcrackle_check(0x20, claim_log, HUBCRACKLE_LOG_MAX, claim, ROOM, record));
+    }
+}
+
+/* The fronts of that log, of every number of records: the right claim, and one whose last answer differs. */
+static void front_claims(void)
+{
+    size_t log_len;
+
+    count_by_mask();
+    claim_of(0x20, claim_log, HUBCRACKLE_LOG_MAX);
+    for (log_len = HUBCRACKLE_RECORD_BYTES; log_len <= HUBCRACKLE_LOG_MAX; log_len += HUBCRACKLE_RECORD_BYTES) {
+        const size_t count = log_len / HUBCRACKLE_RECORD_BYTES, claim_len = count * HUBCRACKLE_ANSWER_BYTES;
+
+        STILL_TRY(OK, hubcrackle_check(0x20, claim_log, log_len, claim, claim_len, record));
+        claim[claim_len - 1] ^= 1;
+        DIFFERS_TRY((uint32_t)count - 1, hubcrackle_check(0x20, claim_log, log_len, claim, claim_len, record));
+        claim[claim_len - 1] ^= 1;
+    }
+}
+
+/* Claims of a controller that takes an accident or a self-deadlock for something else, and one to the same records in another order. */
+static void told_claims(void)
+{
+    /* Thread 3 holds lock 7 three deep, and is unwound. */
+    static const head accident[] = { { 0x00 }, { 0x20, 3 }, { 0x40, 0, 7 }, { 0x40, 0, 7, 0, 1 }, { 0x40, 0, 7, 0, 1 }, { 0xc0, 3 } };
+    static const uint8_t one_level[] = { 0, 0, 0, 0, 0, 0, 0, 0, /**/ 0, 0, 0, 0, 0, 0, 0, 0, /**/ 0, 0, 0, 0, 0, 0, 0, 1, /**/
+                                         0, 0, 0, 0, 0, 0, 0, 2, /**/ 0, 0, 0, 0, 0, 0, 0, 3, /**/ 0, 0, 0, 0, 0, 0, 0, 1 };
+    /* CPU 0 asks for its own lock again. */
+    static const head own[] = { { 0x00 }, { 0x20, 3 }, { 0x40, 0, 7 }, { 0x40, 0, 7 } };
+    static const uint8_t deadlock[] = { 0, 0, 0, 0, 0, 0, 0, 0, /**/ 0, 0, 0, 0, 0, 0, 0, 0, /**/ 0, 0, 0, 0, 0, 0, 0, 1, /**/
+                                        0xff, 0xff, 0xff, 0xd3, 0, 0, 0, 1 };
+    static const uint8_t busy[] = { 0, 0, 0, 0, 0, 0, 0, 0, /**/ 0, 0, 0, 0, 0, 0, 0, 0, /**/ 0, 0, 0, 0, 0, 0, 0, 1, /**/
+                                    0xff, 0xff, 0xff, 0xf0, 0, 0, 0, 1 };
+    /* Pins of two threads, which may trade places. */
+    static const head pins_given[] = { { 0x81, 4 }, { 0x80, 3 } }, pins_traded[] = { { 0x80, 3 }, { 0x81, 4 } };
+    size_t log_len = spread(claim_log, accident, 6);
+
+    DIFFERS_TRY(5, hubcrackle_check(0x20, claim_log, log_len, one_level, sizeof one_level, record));
+    claim_of(0x20, claim_log, log_len);
+    STILL_TRY(OK, hubcrackle_check(0x20, claim_log, log_len, claim, sizeof one_level, record));
+
+    log_len = spread(claim_log, own, 4);
+    STILL_TRY(OK, hubcrackle_check(0x20, claim_log, log_len, deadlock, sizeof deadlock, record));
+    DIFFERS_TRY(3, hubcrackle_check(0x20, claim_log, log_len, busy, sizeof busy, record));
+
+    log_len = spread(claim_log, pins_traded, 2);
+    claim_of(0x20, claim_log, log_len);
+    STILL_TRY(OK, hubcrackle_check(0x20, claim_log, log_len, claim, 16, record));
+    log_len = spread(claim_log, pins_given, 2);
+    DIFFERS_TRY(0, hubcrackle_check(0x20, claim_log, log_len, claim, 16, record));
+}
+
+/* A stack of its own for a claim to be judged on. It is filled first, so that the bytes that are written there can be told. */
+enum { STACK = 1 << 17 };
+static uint8_t stack[STACK] __attribute__((aligned(16)));
+
+/* How long the front of claim_log is that is judged there. */
+static size_t judged_len;
+
+/* Judges the right claim to that front. */
+static void judge(void)
+{
+    calls++;
+    if (hubcrackle_check(0x20, claim_log, judged_len, claim, judged_len / HUBCRACKLE_RECORD_BYTES * HUBCRACKLE_ANSWER_BYTES, record) != OK)
+        blame(__LINE__, "a right claim on another stack");
+}
+
+/* Calls it on that stack. The archives are x86-64 code, and so is this. */
+static void judge_there(void)
+{
+    void (*const call)(void) = judge;
+
+    __asm__ volatile("movq %%rsp, %%rbx\n\tmovq %0, %%rsp\n\tcall *%1\n\tmovq %%rbx, %%rsp"
+                     :
+                     : "r"(stack + STACK), "r"(call)
+                     : "rax", "rbx", "rcx", "rdx", "rsi", "rdi", "r8", "r9", "r10", "r11", "xmm0", "xmm1", "xmm2", "xmm3", "xmm4", "xmm5", "xmm6",
+                       "xmm7", "xmm8", "xmm9", "xmm10", "xmm11", "xmm12", "xmm13", "xmm14", "xmm15", "memory", "cc");
+}
+
+/* How many bytes of stack the right claim to a front of claim_log takes, down to the lowest byte that changes, whatever it was; the few of `judge`
+ * are among them. */
+static int stack_taken(size_t log_len)
+{
+    static const uint8_t fillings[] = { 0x00, 0xff };
+    int turn, at, lowest = STACK;
+
+    judged_len = log_len;
+    for (turn = 0; turn < 2; turn++) {
+        for (at = 0; at < STACK; at++)
+            stack[at] = pattern(at) ^ fillings[turn];
+        judge_there();
+        for (at = 0; at < lowest && stack[at] == (pattern(at) ^ fillings[turn]); at++)
+            continue;
+        lowest = at;
+    }
+    return STACK - lowest;
+}
+
+/* A claim to the longest log takes no more stack than one to its first record. Says how much. */
+static int stack_of_claims(void)
+{
+    int first, all;
+
+    count_by_mask();
+    claim_of(0x20, claim_log, HUBCRACKLE_LOG_MAX);
+    first = stack_taken(HUBCRACKLE_RECORD_BYTES);
+    all = stack_taken(HUBCRACKLE_LOG_MAX);
+    if (first != all) {
+        printf("calls.c: the stack is %d bytes for the first record, and %d for all\n", first, all);
+        blame(__LINE__, "a claim takes stack by the length of its log");
+    }
+    return all;
+}
+
 int main(void)
 {
+    int check_stack;
+
     owner_words();
     wide_owner_words();
     masks();
@@ -1070,6 +1351,14 @@ int main(void)
     finishes();
     two_forms();
     copies();
-    printf("%d calls, %d wrong\n", calls, wrong);
+    right_claims();
+    wrong_claims();
+    claim_lengths();
+    refused_claims();
+    long_claims();
+    front_claims();
+    told_claims();
+    check_stack = stack_of_claims();
+    printf("%d calls, %d wrong; hubcrackle_check takes %d bytes of stack\n", calls, wrong, check_stack);
     return wrong != 0;
 }

@@ -15,3 +15,4 @@ pub mod PinnedThread
 pub mod SelfDeadlock
 pub mod Cuts
 pub mod LongCuts
+pub mod Claims

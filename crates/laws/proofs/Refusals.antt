@@ -58,7 +58,7 @@ pub run-call-refused : (setup : ℕ) (log room : List ℕ) → isOK (codeFromSet
 run-call-refused = refused-writes-nothing
 
 -- The exported start: every byte that was to be the form stays. The exported feed: every byte of the form and of the answer room stays; by its
--- contract so does the number of records.
+-- contract so does the number of records. The exported check writes a number of a record alone, and by its contract that stays too.
 pub start-call-refused : (setup : ℕ) (form : List ℕ) → isOK (startCode setup (length form)) ≡ false → startRoom setup form ≡ form
 start-call-refused = refused-start
 

@@ -3,6 +3,7 @@
 -- (proofs/Accident.antt), and stored among the logs that the gate replays.
 use mathlib.Core.List.{List, _++_}
 use Prim.Native.Nat.{ℕ}
+use lib.ListN.{take, drop}
 use Rattle.machine.specs.State.{setup}
 use Rattle.machine.specs.declared.Machine.{Machine}
 use Rattle.operations.specs.Log.{stateAt}
@@ -32,3 +33,7 @@ accidentAnswers =
 -- The machine after it.
 unfoldable pub accidentEnd : Machine
 accidentEnd = stateAt (setup 0x20 .value) accident 10
+
+-- What a controller claims whose unwinding gave back one level of the three, and said so: the answer to record 6 has value 1.
+unfoldable pub gaveBackOne : List ℕ
+gaveBackOne = take 48 accidentAnswers ++ (zeros 1 ++ drop 56 accidentAnswers)

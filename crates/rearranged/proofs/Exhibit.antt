@@ -22,7 +22,7 @@ use Rattle.operations.specs.Log.{recordAt, stateAt, answerAt}
 use Rattle.order.specs.Clash.{Footprint, In, here, there, Clash, writes-first, writes-second}
 use Rattle.rearranged.specs.Clash.{footprint}
 use Rattle.rearranged.specs.Rearranged.{Rearranged}
-use Rattle.rearranged.specs.Exhibit.{twoCpus, oneByOne, interleaved, came, turnedRound, turned}
+use Rattle.rearranged.specs.Exhibit.{twoCpus, oneByOne, interleaved, came, turnedRound, turned, upFirst, downFirst, swapped}
 
 -- A clash as a test.
 same : Cell → Cell → Bool
@@ -138,6 +138,37 @@ module _ (pinOnly : Bool) where
             (λ l _. below-four (λ j. Kept j 3)
             (λ _. barred 0 3 (free .1 .0)) (λ _ _. omega arith) (λ _. barred 2 3 (free .1 .1)) (λ b. absurd (omega arith)) j (omega arith))
             k h b h b;
+      }
+
+-- Two records, in either order.
+below-two : (P : ℕ → Type 0) → P 0 → P 1 → (k : ℕ) → k < 2 → P k
+below-two P a b zero h = a
+below-two P a b (suc zero) h = b
+below-two P a b (suc (suc k)) h = absurd (omega arith)
+
+module _ (pinOnly : Bool) where
+  abbrev pairAt : ℕ → Footprint Cell
+  pairAt k = footprint (twoCpus pinOnly) (recordAt downFirst k)
+
+  apart : clashing (pairAt 0) (pairAt 1) ≡ false
+  unfolding same among meet clashing requestOf fieldsOf rowOf fits
+  apart = refl
+
+  pub either-order : Rearranged (twoCpus pinOnly) 2 upFirst downFirst swapped
+  either-order =
+      record {
+        permutes = record {
+          below = below-two (λ k. swapped k < 2) (omega arith) (omega arith);
+          once = λ j k g h. below-two (λ j. swapped j ≡ swapped k → j ≡ k)
+              (below-two (λ k. 1 ≡ swapped k → 0 ≡ k) (λ e. refl) (λ e. absurd (omega arith)) k h)
+              (below-two (λ k. 0 ≡ swapped k → 1 ≡ k) (λ e. absurd (omega arith)) (λ e. refl) k h) j g;
+        };
+        moved = below-two (λ k. recordAt downFirst k ≡ recordAt upFirst (swapped k)) refl refl;
+        kept = λ j k b h. below-two (λ k. j < k → k < 2 → Clash (pairAt j) (pairAt k) → swapped j < swapped k)
+            (λ l _ _. absurd (omega arith))
+            (λ l _. below-two (λ j. j < 1 → Clash (pairAt j) (pairAt 1) → swapped j < swapped 1)
+            (λ _ c. absurd (false≢true (sym apart ∙ clash-clashing _ _ c))) (λ b _. absurd (omega arith)) j (omega arith) l)
+            k h b h;
       }
 
 pub not-the-same : interleaved ≢ oneByOne

@@ -34,3 +34,14 @@ turnedRound = bring 0 3 ++ (bringUp 0 ++ (bringUp 1 ++ bring 1 4))
 -- Where each record of `turnedRound` stands in `oneByOne`.
 abbrev pub turned : ℕ → ℕ
 turned k = getD (1 ∷ 0 ∷ 2 ∷ 3 ∷ []) k 0
+
+-- A record that is accepted and one that is refused, of two CPUs, in either order: up of CPU 0, and down of CPU 1, which is down.
+abbrev pub upFirst : List ℕ
+upFirst = bringUp 0 ++ packed 1 1 0 0 0 0
+
+abbrev pub downFirst : List ℕ
+downFirst = packed 1 1 0 0 0 0 ++ bringUp 0
+
+-- Where each record of `downFirst` stands in `upFirst`.
+abbrev pub swapped : ℕ → ℕ
+swapped k = getD (1 ∷ 0 ∷ []) k 0

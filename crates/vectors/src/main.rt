@@ -1,10 +1,18 @@
-// Replays stored logs and stored calls by the proved library and compares every byte of the answers. A line for each case says how it went, and
-// for a log a second line says how it went in pieces.
+// Replays stored logs and stored calls by the proved library and compares every byte of the answers, and has stored claims judged and compares the
+// verdicts. A line for each case says how it went, and for a log a second line says how it went in pieces.
+mod checks;
 mod pieces;
 
 ghost use Prim.Native.Nat.{_+_, _*_, _≤_, _<_};
 ghost use lib.ListN.{length};
 use libc::STDOUT_FILENO;
+
+// What the lines of a file are: inputs of the program, calls, or claims with the verdict on them.
+enum Lines {
+    Logs,
+    Calls,
+    Checks,
+}
 
 fn put(text: &[u8]) {
     io::write_all(STDOUT_FILENO, text);
@@ -177,7 +185,7 @@ fn compare_call(input: &[u8], expected: &[u8], room: &mut [u8]) {
     }
 }
 
-// What the lines of a file are: inputs of the program, or calls.
+// Answers an input of the program or makes a call, and compares.
 fn judge(calls: bool, input: &[u8], n: usize, expected: &[u8], k: usize) {
     if calls {
         if n <= input.len() {
@@ -201,7 +209,7 @@ fn in_pieces(name: &[u8], input: &[u8], n: usize, expected: &[u8], k: usize) {
 }
 
 // One line: a name, an input and its answers.
-fn case(line: &[u8], calls: bool) {
+fn answered(line: &[u8], calls: bool) {
     let a = find(line, 0, b' ');
     let name = front_of(line, a);
     put(name);
@@ -224,17 +232,26 @@ fn case(line: &[u8], calls: bool) {
     put(b": not a case\n");
 }
 
-fn cases(text: &[u8], calls: bool) {
+// One line of a file.
+fn case(line: &[u8], lines: Lines) {
+    match lines {
+        Lines::Logs => answered(line, false),
+        Lines::Calls => answered(line, true),
+        Lines::Checks => checks::case(line),
+    }
+}
+
+fn cases(text: &[u8], lines: Lines) {
     let mut at = 0;
     while at < text.len() {
         let end = find(text, at, b'\n');
-        case(&text[at..end], calls);
+        case(&text[at..end], lines);
         at = end + 1;
     }
 }
 
 // Every line of a stored file.
-fn replay(path: &[u8], calls: bool) {
+fn replay(path: &[u8], lines: Lines) {
     let file = os::open_read(path);
     if file < 0 {
         os::fail(path);
@@ -243,10 +260,12 @@ fn replay(path: &[u8], calls: bool) {
     let mut text = [0u8; 300000];
     let n = io::read_full(file, &mut text);
     libc::close(file);
-    cases(&text[..n], calls);
+    cases(&text[..n], lines);
 }
 
 fn main() {
-    replay(b"logs-after-06.txt", false);
-    replay(b"calls-01.txt", true);
+    replay(b"logs-after-06.txt", Lines::Logs);
+    replay(b"calls-01.txt", Lines::Calls);
+    replay(b"checks-08.txt", Lines::Checks);
+    replay(b"checks-own.txt", Lines::Checks);
 }

@@ -6,10 +6,10 @@ use Rattle.vectors.proofs.cases.Statement.{statement}
 use Rattle.vectors.proofs.cases.Tie as tie
 
 abbrev Inv-loop : tie.InvT-loop
-Inv-loop text calls at₀ at = at ≤ length text + 1
+Inv-loop text lines at₀ at = at ≤ length text + 1
 
 abbrev μ-loop : tie.MeasureT-loop
-μ-loop text calls at₀ at = (length text + 1) - at
+μ-loop text lines at₀ at = (length text + 1) - at
 
 loop-holds : tie.Need-loop-holds Inv-loop μ-loop
 loop-holds c = search needs
