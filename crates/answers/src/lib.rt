@@ -2,6 +2,9 @@
 //
 // New here: upstream has no log. Document 01, "Log records". A caller can rely on these: an answer is written whole or not at all, the code that
 // comes back says which, bytes past the answer stay, and code and value come back from the bytes (proofs/Laws.antt).
+
+#![tactic(auto)]
+
 ghost use Rattle.std.specs.Prelude.{◌≡◌, ◌+◌, ◌*◌, ◌^◌, length};
 ghost use Rattle.error.specs.Codes.{number_of};
 ghost use Rattle.words.specs.Signed.{from_signed};

@@ -3,7 +3,7 @@
 // A read that fails is told from the end of a file, so that what cannot be read never counts as empty. Every file that was opened is closed.
 
 // What came of a file: how many of its bytes stand over the front of the room, or the number of the error that kept it from being opened or read.
-#[derive(Drop)]
+#[derive(Clone, Copy)]
 pub(crate) enum Content {
     Bytes(usize),
     NotOpened(i32),

@@ -21,7 +21,7 @@ const SETUP_BYTES: usize = 1;
 const VALUE_AT: usize = 4;
 
 // What came of a pair.
-#[derive(Drop)]
+#[derive(Clone, Copy)]
 pub(crate) enum Outcome {
     Accepted,
     Differs,

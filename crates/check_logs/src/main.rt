@@ -2,6 +2,9 @@
 // replay writes them. One line for each pair says what was found, and a last line counts them.
 //
 // The verdict is that of the proved crate claims. All memory is fixed, and nothing is kept from one pair to the next but the counts.
+
+#![tactic(auto)]
+
 mod files;
 mod judge;
 mod names;
@@ -21,7 +24,7 @@ const PAIR: usize = 2;
 const MAX_NAME: usize = libc::PATH_MAX - 1;
 
 // How many pairs had each outcome.
-#[derive(Drop)]
+#[derive(Clone, Copy)]
 struct Tally {
     accepted: usize,
     differs: usize,

@@ -3,6 +3,9 @@
 // New here. Document 02, request 8. One block of records after the other is run and compared, in room that serves every block, so that a long log
 // needs no more than a short one. A caller can rely on these: what the program refuses is told before the claim is looked at, and a claim is right
 // only if every byte of it is; else no record below the one that is named has a wrong answer.
+
+#![tactic(auto)]
+
 ghost use Rattle.std.specs.Prelude.{◌≡◌, true, ◌*◌, ◌/◌, ◌≤◌, ◌<◌, length, take};
 ghost use Rattle.error.specs.Codes.{number_of};
 ghost use Rattle.wellformed.specs.WellFormed.{well_formed};
@@ -29,7 +32,7 @@ const BLOCK_RECORDS: usize = 1024;
 const BLOCK_BYTES: usize = 8192;
 
 // The outcome of a check: the whole claim is right, this is the lowest record with another answer, or this code keeps it from being judged.
-#[derive(Drop)]
+#[derive(Clone, Copy)]
 pub enum Verdict {
     Right,
     Differs(u32),

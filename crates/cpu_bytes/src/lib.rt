@@ -2,6 +2,9 @@
 //
 // New here. Document 01, "What must change shape": upstream's two slices cross to C as bytes. A caller can rely on these: bytes of any other
 // form are refused with EINVAL, and all others are answered as ipi::compute_ipi_mask answers their CPUs.
+
+#![tactic(auto)]
+
 ghost use Rattle.std.specs.Prelude.{◌≡◌, ◌+◌, ◌*◌, ◌≤◌, length};
 ghost use Rattle.ipi.specs.Ipi.{ipi_says};
 ghost use Rattle.cpu_bytes.specs.Cpus.{

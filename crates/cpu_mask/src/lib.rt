@@ -3,6 +3,9 @@
 // Upstream: src/cpu_mask.rs; cpu_mask_mod, validate_pin_mask, cpu_pin_compute and CpuMaskResult keep their names. `allows` and `bits_below`
 // are new here. A mask of zero is a mask (upstream withdrew CM4): such a thread waits until bits are enabled again. A caller can rely on every
 // bit of the new mask (proofs/Laws.antt) and on the cases in which the call succeeds, not only on what success means.
+
+#![tactic(auto)]
+
 ghost use Rattle.std.specs.Prelude.{◌≡◌};
 ghost use Rattle.words.specs.Bit.{bit};
 ghost use Rattle.cpu_mask.specs.Mask.{new_mask, validate_pin_mask, bits_below, mask_says, pin_says, cpu_mask_mod, cpu_pin_compute};
@@ -16,14 +19,14 @@ pub const MASK_BITS: u32 = 32;
 pub const MAX_MASK_CPUS: u32 = 16;
 
 // The mask after a call: the new one, or with the code of a refusal the one that was.
-#[derive(Drop)]
+#[derive(Clone, Copy)]
 pub struct CpuMaskResult {
     pub mask: u32,
     pub error: Code,
 }
 
 // The mask of one CPU, or nothing.
-#[derive(Drop)]
+#[derive(Clone, Copy)]
 pub enum PinMask {
     Only(u32),
     BadCpu,

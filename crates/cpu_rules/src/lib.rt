@@ -4,6 +4,9 @@
 //
 // New here; the definitions are in the crate rules, masks go by the crate cpu_mask. A caller can rely on this: a refusal, of numbers that no
 // record may carry too, hands every cell back as it was.
+
+#![tactic(auto)]
+
 ghost use Rattle.std.specs.Prelude.{◌≡◌, ◌&&◌};
 ghost use Rattle.order.specs.Outcome.{applied_to};
 ghost use Rattle.machine.specs.State.{has_cpu, is_thread, idle_run};

@@ -3,6 +3,9 @@
 // New here: upstream has the single rules and no machine. 01, "The machine", "Well-formed": one function for each clause. It is handed the
 // elements that the clause looks at, never the machine, which is 4 KB. A caller can rely on an answer for every argument: a CPU past the end
 // of its array has no current thread, and a thread past the end of its array fits no CPU.
+
+#![tactic(auto)]
+
 ghost use Rattle.std.specs.Prelude.{◌≡◌};
 ghost use Rattle.machine.specs.State.{is_priority};
 ghost use Rattle.element_tests.specs.Elements.{

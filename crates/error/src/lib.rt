@@ -2,6 +2,9 @@
 //
 // Upstream: src/error.rs, every constant with its number. New: `Code`, the seven codes of document 01's table and the eighth of document 02's
 // sixth request, EDEADLK, as an enum, and `number`, the one place where a case becomes a number. A caller can rely on the numbers: they are Zephyr's.
+
+#![tactic(auto)]
+
 ghost use Rattle.std.specs.Prelude.{◌≡◌};
 ghost use Rattle.error.specs.Codes.{number_of, is_ok};
 
@@ -40,7 +43,7 @@ pub const EOVERFLOW: i32 = -139;
 pub const ECANCELED: i32 = -140;
 
 // The codes that are given out, and no others.
-#[derive(Drop)]
+#[derive(Clone, Copy)]
 pub enum Code {
     Ok,
     Eperm,
@@ -85,7 +88,7 @@ pub fn is_ok(code: Code) -> bool
 }
 
 // A yes or no, with its code. A refused question is answered no.
-#[derive(Drop)]
+#[derive(Clone, Copy)]
 pub struct YesNo {
     pub code: Code,
     pub yes: bool,

@@ -3,6 +3,9 @@
 // New here. Document 02, request 7. The first record is put together from the pending bytes and the head of the fragment, and the records
 // behind it are run where they lie, by the runner's loop. Each call asks once whether the machine is well-formed. A caller can rely on these: a
 // fragment is taken whole or not at all, a refusal changes no lent byte, feeding may go on after it, and there is no limit on how much is fed.
+
+#![tactic(auto)]
+
 ghost use Rattle.std.specs.Prelude.{◌≡◌, ◌&&◌, ◌++◌, ◌+◌, ◌≤◌, leb, length, take, drop, get_or};
 ghost use Rattle.error.specs.Codes.{number_of};
 ghost use Rattle.runner.specs.Run.{on_ok};
@@ -29,7 +32,7 @@ use runner::Ran;
 pub const PENDING_BYTES: usize = 11;
 
 // A machine, and the first `count` bytes of a record that has not arrived whole.
-#[derive(Drop)]
+#[derive(Clone, Copy)]
 pub struct Form {
     pub machine: Machine,
     pub pending: [u8; PENDING_BYTES],
@@ -37,14 +40,14 @@ pub struct Form {
 }
 
 // A form, with a call's code.
-#[derive(Drop)]
+#[derive(Clone, Copy)]
 pub struct Coded {
     pub code: Code,
     pub form: Form,
 }
 
 // A form after a fragment, with the feed's code and how many records were run: as many answers were written.
-#[derive(Drop)]
+#[derive(Clone, Copy)]
 pub struct Fed {
     pub code: Code,
     pub form: Form,

@@ -4,6 +4,9 @@
 // The work is in the proved crate feed. A read takes what is there, and the answers of its records are written before the next read. So the log
 // may have any length. An input with no setup byte or a bad one gets one answer, and one that ends inside a record gets one more. A read that
 // fails counts as the end of the input.
+
+#![tactic(auto)]
+
 use answers::ANSWER_BYTES;
 use error::Code;
 use feed::Form;
@@ -15,7 +18,7 @@ use program::MAX_ANSWER_BYTES;
 const MAX_READS: u64 = 0xffff_ffff_ffff_ffff;
 
 // A form after a read, with whether there is more to read, and else the code at the end.
-#[derive(Drop)]
+#[derive(Clone, Copy)]
 struct Turn {
     code: Code,
     form: Form,

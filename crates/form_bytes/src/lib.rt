@@ -3,6 +3,9 @@
 // New here. Document 02, request 7. A form has 2,962 bytes: the machine's 2,950, as machine_bytes has them, then eleven places for pending
 // bytes, then how many are pending, 1 byte. A caller can rely on these: too few bytes are no form and are refused with EINVAL; a refusal changes
 // no lent byte; and the bytes after a call read as the form that feed gives by value.
+
+#![tactic(auto)]
+
 ghost use Rattle.std.specs.Prelude.{◌≡◌, ◌++◌, ◌≤◌, length, drop};
 ghost use Rattle.std.proofs.lemmas.List.Edits.{sets};
 ghost use Rattle.error.specs.Codes.{number_of};
@@ -33,7 +36,7 @@ const PENDING_AT: usize = 2950;
 const COUNT_AT: usize = 2961;
 
 // A feed's code, and how many records were run.
-#[derive(Drop)]
+#[derive(Clone, Copy)]
 pub struct FedForm {
     pub code: Code,
     pub records: u32,

@@ -2,6 +2,9 @@
 //
 // New here: upstream has no bytes. Document 01, "Log records" and "What must change shape": most significant first. A caller can rely on these:
 // `put` writes every byte of the number or changes no byte of the room, and says which.
+
+#![tactic(auto)]
+
 ghost use Rattle.std.specs.Prelude.{◌≡◌, [], ◌∷◌, length};
 ghost use Rattle.words.specs.HighFirst.{high_first, from_high_first};
 ghost use Rattle.words.specs.Signed.{to_signed};

@@ -4,6 +4,9 @@
 // with its flag set. Each call is the method of the same name of the crate spinlock, which takes the record by value, and the record stored
 // back. A caller can rely on what the method says: code and record are those of the same definition, so after a refusal the record is what it
 // was (proofs/Laws.antt).
+
+#![tactic(auto)]
+
 ghost use Rattle.std.specs.Prelude.{◌≡◌};
 ghost use Rattle.error.specs.Codes.{number_of};
 ghost use Rattle.error.specs.Answer.{answer};

@@ -3,6 +3,9 @@
 // Upstream: src/ipi.rs; compute_ipi_mask and validate_ipi_mask keep their names.
 // The two slices of upstream are one array of sixteen CPU records by value; records from num_cpus on are not looked at. Upstream promises
 // nothing of the mask; here its value is exact, and proofs/Laws.antt says of every bit when it is set. A lower number is more important.
+
+#![tactic(auto)]
+
 ghost use Rattle.std.specs.Prelude.{◌≡◌, ◌&&◌};
 ghost use Rattle.std.specs.Int.Signed.{lt_z};
 ghost use Rattle.error.specs.Answer.{yes_no_says};
@@ -14,14 +17,14 @@ use error::{Code, YesNo};
 pub const MAX_IPI_CPUS: u32 = 16;
 
 // One CPU: whether it is up, and the priority of what it runs.
-#[derive(Drop)]
+#[derive(Clone, Copy)]
 pub struct CpuRecord {
     pub active: bool,
     pub priority: i32,
 }
 
 // The CPUs to interrupt, or none with the code of the refusal.
-#[derive(Drop)]
+#[derive(Clone, Copy)]
 pub struct IpiMask {
     pub code: Code,
     pub mask: u32,

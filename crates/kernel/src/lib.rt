@@ -3,6 +3,9 @@
 // New here. Document 01, "What must change shape": the owner-word, mask, pin and interrupt rules and the runner, as exported functions. Each
 // returns its code, and on OK its value stands over the front of `out`, high byte first. A caller can rely on these: ENOMEM is tested last, a
 // refusal changes no lent byte, and bytes past the value stay. Document 02, request 4: `wide` is 0 for a tag of two bits and 1 for one of four.
+
+#![tactic(auto)]
+
 ghost use Rattle.std.specs.Prelude.{◌≡◌, length};
 ghost use Rattle.lent_room.specs.Room.{call_code, call_room};
 ghost use Rattle.kernel.specs.Calls.{

@@ -3,6 +3,9 @@
 // New here. Document 02, request 8. It is an archive of its own, as the calls on a form are: with a second caller of the loop in their archives the
 // other calls on a log would take more time. A caller can rely on these: the result is OK only if every byte of the claim is right, and the number
 // changes only where a record is named.
+
+#![tactic(auto)]
+
 ghost use Rattle.std.specs.Prelude.{◌≡◌};
 ghost use Rattle.claims.specs.Claims.{judged};
 ghost use Rattle.kernel_check.specs.Call.{result_of, record_after};

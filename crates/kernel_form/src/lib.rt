@@ -3,6 +3,9 @@
 // New here. Document 02, request 7. They are an archive of their own: the loop and the test of well-formedness stand in each archive once, and
 // with a second caller there the compiler would no longer put them into hubcrackle_run, which would take more time and stack. A caller can rely on
 // these: a refusal changes no lent byte, and the bytes of a form read as the form that the call by value gives.
+
+#![tactic(auto)]
+
 ghost use Rattle.std.specs.Prelude.{◌≡◌, length};
 ghost use Rattle.runner.specs.Run.{on_ok};
 ghost use Rattle.form_bytes.specs.Form.{

@@ -2,6 +2,9 @@
 //
 // New here. Document 01, "What must change shape": word 8 bytes, mask 4, yes or no 1, a decoding thread 8 then CPU 1. A caller can rely on
 // these: ENOMEM is tested last, a refusal changes no byte, and bytes past the value stay.
+
+#![tactic(auto)]
+
 ghost use Rattle.std.specs.Prelude.{◌≡◌, length};
 ghost use Rattle.error.specs.Codes.{number_of};
 ghost use Rattle.error.specs.Answer.{answer};

@@ -4,6 +4,9 @@
 // New here; the definitions are in the crate rules, the lock's rule goes by the crate spinlock, the owner word by the definitions of
 // spinlock_validate. A refusal hands every cell back as it was. Document 02, request 6: a plain acquire of a lock that the asking CPU itself holds
 // is EDEADLK (rules::is_again).
+
+#![tactic(auto)]
+
 ghost use Rattle.std.specs.Prelude.{◌≡◌, true};
 ghost use Rattle.words.specs.Tag.{word_of};
 ghost use Rattle.error.specs.Codes.{EINVAL};

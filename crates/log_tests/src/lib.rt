@@ -3,6 +3,9 @@
 //
 // New here: upstream has no log. Document 01, "Log records", "Runner"; document 02, request 7. It stands apart from the runner, so that these
 // tests are made and proved without the loop.
+
+#![tactic(auto)]
+
 ghost use Rattle.std.specs.Prelude.{◌≡◌};
 ghost use Rattle.error.specs.Codes.{number_of};
 ghost use Rattle.log_tests.specs.RunCode.{run_code};

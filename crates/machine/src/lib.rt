@@ -3,6 +3,9 @@
 // New here: upstream has the single rules and no machine. CPU, thread and lock numbers are kinds of their own, so that a lock's number
 // cannot index a CPU or a thread. What is fixed at start is one value, the setup; the width of an owner word's tag is a function of it, and n is
 // at most what a tag of that width tells apart.
+
+#![tactic(auto)]
+
 ghost use Rattle.std.specs.Prelude.{◌≡◌};
 ghost use Rattle.words.specs.Tag.{cpu_of};
 ghost use Rattle.machine.specs.State.{
@@ -41,13 +44,13 @@ const LEAST_PRIORITY: i32 = -128;
 
 const GREATEST_PRIORITY: i32 = 127;
 
-#[derive(Drop)]
+#[derive(Clone, Copy)]
 pub struct CpuId(pub u32);
 
-#[derive(Drop)]
+#[derive(Clone, Copy)]
 pub struct ThreadId(pub u32);
 
-#[derive(Drop)]
+#[derive(Clone, Copy)]
 pub struct LockId(pub u32);
 
 impl ThreadId {
@@ -67,7 +70,7 @@ pub fn is_priority(priority: i32) -> bool
 }
 
 // What is fixed at start: how many CPUs there are, whether a mask has one bit only, and whether owner words have wide tags.
-#[derive(Drop)]
+#[derive(Clone, Copy)]
 pub struct Setup {
     pub n: u32,
     pub pin_only: bool,
@@ -115,21 +118,21 @@ impl Setup {
 }
 
 // The thread that a CPU runs.
-#[derive(Drop)]
+#[derive(Clone, Copy)]
 pub enum Current {
     None,
     Thread(ThreadId),
 }
 
 // The CPU on which a thread runs.
-#[derive(Drop)]
+#[derive(Clone, Copy)]
 pub enum Place {
     Nowhere,
     On(CpuId),
 }
 
 // A CPU's run cell.
-#[derive(Drop)]
+#[derive(Clone, Copy)]
 pub struct Run {
     pub active: bool,
     pub current: Current,
@@ -137,14 +140,14 @@ pub struct Run {
 }
 
 // A CPU: its run cell, and its hold cell, how many lock levels it holds.
-#[derive(Drop)]
+#[derive(Clone, Copy)]
 pub struct Cpu {
     pub run: Run,
     pub hold: u32,
 }
 
 // A thread's cell.
-#[derive(Drop)]
+#[derive(Clone, Copy)]
 pub struct Thread {
     pub mask: u32,
     pub priority: i32,
@@ -152,7 +155,7 @@ pub struct Thread {
 }
 
 // A lock's cell: the lock record and the owner word.
-#[derive(Drop)]
+#[derive(Clone, Copy)]
 pub struct Lock {
     pub state: SpinlockState,
     pub word: u64,
@@ -168,7 +171,7 @@ pub const FREE_LOCK: Lock = Lock {
     word: 0,
 };
 
-#[derive(Drop)]
+#[derive(Clone, Copy)]
 pub struct Machine {
     pub setup: Setup,
     pub cpus: [Cpu; CPU_SLOTS],
@@ -177,7 +180,7 @@ pub struct Machine {
 }
 
 // A machine that was made, or the fresh one of n 1 with the code of the refusal.
-#[derive(Drop)]
+#[derive(Clone, Copy)]
 pub struct Made {
     pub code: Code,
     pub machine: Machine,

@@ -4,6 +4,9 @@
 // priority 4, hold 4), 32 threads of 13 (mask 4, priority 4, place 1 and 4) and 128 locks of 18 (owner 1 and 4, depth 4, irq flag 1, word 8). A
 // caller can rely on these: bytes that are long enough always read as a machine, a machine is written whole or not at all, bytes past it stay,
 // and what was written is read back.
+
+#![tactic(auto)]
+
 ghost use Rattle.std.specs.Prelude.{◌≡◌, List, ◌++◌, ℕ, ◌≤◌, length, drop};
 ghost use Rattle.std.proofs.lemmas.List.Edits.{sets};
 ghost use Rattle.error.specs.Codes.{number_of};

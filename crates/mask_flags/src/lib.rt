@@ -1,6 +1,9 @@
 // The mask rule with its flags as numbers, as a C kernel hands them over.
 //
 // New here, over the crate cpu_mask: a flag is 0 or 1, and any other number is refused as a bad mask is, with the mask as it was.
+
+#![tactic(auto)]
+
 ghost use Rattle.std.specs.Prelude.{◌≡◌};
 ghost use Rattle.cpu_mask.specs.Mask.{mask_says};
 ghost use Rattle.mask_flags.specs.Flags.{mask_of_flags};

@@ -3,6 +3,9 @@
 // New here, over the crate spinlock_validate; document 02, request 4: the flag is 0 for a tag of two bits and 1 for one of four, and any other
 // number is refused with EINVAL. Where a word comes back each flag has an arm of its own, so that a compiler works the rule out for each width; where
 // the answer is yes or no it has not, since the compiler would make a branch of the answer (docs/PERFORMANCE.md).
+
+#![tactic(auto)]
+
 ghost use Rattle.std.specs.Prelude.{◌≡◌, leb};
 ghost use Rattle.error.specs.Answer.{yes_no_says};
 ghost use Rattle.spinlock_validate.specs.Owner.{owner_word_says, decoded_says};

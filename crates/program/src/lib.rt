@@ -2,6 +2,9 @@
 //
 // New here. Document 01, "Log records", the last paragraph. A caller can rely on these: the setup byte is judged first, a refused input gets one
 // answer, and an empty log gets none. Too little room for that one answer is ENOMEM.
+
+#![tactic(auto)]
+
 ghost use Rattle.std.specs.Prelude.{◌≡◌, length};
 ghost use Rattle.program.specs.Program.{response_says, refusal_size, refusal_room, respond_size, respond_room};
 ghost use Rattle.error.specs.Codes.{number_of};
@@ -15,7 +18,7 @@ pub const MAX_INPUT_BYTES: usize = 24577;
 pub const MAX_ANSWER_BYTES: usize = 16384;
 
 // How many bytes of answers were written; or 0 with the code of a refusal for want of room.
-#[derive(Drop)]
+#[derive(Clone, Copy)]
 pub struct Response {
     pub code: Code,
     pub size: usize,

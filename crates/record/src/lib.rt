@@ -3,6 +3,9 @@
 // New here: upstream has no log. Document 01, "Log records": the form test and the fields that each operation uses; of document 02 are unwind, 12,
 // and that an acquire is plain or nested by A, where 5 was the nested one. A caller can rely on these: every number of a request is in range
 // (proofs/Range.antt), and one that is not `Malformed` has one encoding (proofs/Laws.antt).
+
+#![tactic(auto)]
+
 ghost use Rattle.std.specs.Prelude.{◌≡◌, cond, ◌+◌, ◌<◌, ◌≤◌, length, take, drop};
 ghost use Rattle.words.specs.HighFirst.{from_high_first};
 ghost use Rattle.words.specs.Bit.{bit};
@@ -24,7 +27,7 @@ use machine::{CpuId, LOCKS, LockId, Setup, THREADS, ThreadId};
 pub const RECORD_BYTES: usize = 12;
 
 // What a record asks of a CPU.
-#[derive(Drop)]
+#[derive(Clone, Copy)]
 pub enum CpuOperation {
     Up,
     Down,
@@ -33,7 +36,7 @@ pub enum CpuOperation {
 }
 
 // What a record asks of a thread. A pin leaves the bit of the request's CPU.
-#[derive(Drop)]
+#[derive(Clone, Copy)]
 pub enum ThreadOperation {
     Mask { enable: u32, disable: u32 },
     Pin,
@@ -41,7 +44,7 @@ pub enum ThreadOperation {
 }
 
 // What a record asks for: the operations in families, by what they change.
-#[derive(Drop)]
+#[derive(Clone, Copy)]
 pub enum Operation {
     Malformed,
     OnCpu(CpuOperation),
@@ -53,7 +56,7 @@ pub enum Operation {
 }
 
 // An operation with the numbers that it uses. A number that it does not use is 0.
-#[derive(Drop)]
+#[derive(Clone, Copy)]
 pub struct Request {
     pub operation: Operation,
     pub cpu: CpuId,
@@ -78,7 +81,7 @@ const A_IS_PRIORITY: u32 = 0x200;
 const B_IS_MASK: u32 = 0x080;
 
 // The fields of twelve bytes, before any test.
-#[derive(Drop)]
+#[derive(Clone, Copy)]
 struct Fields {
     operation: u32,
     cpu: u32,

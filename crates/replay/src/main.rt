@@ -2,6 +2,9 @@
 //
 // The work is in the proved crate program. The input is read into a fixed room, one byte longer than the longest input, so that a longer one
 // shows; no more of it is read.
+
+#![tactic(auto)]
+
 use libc::{STDIN_FILENO, STDOUT_FILENO};
 
 // Writes the first bytes of a buffer.

@@ -4,6 +4,9 @@
 // New here; the lock's rule goes by the crate spinlock, the owner word by spinlock_validate, masks by cpu_mask, interrupts by ipi. The code is in
 // crates by what it changes: cpu_rules, lock_rules, thread_rules and unwind_rules; what is asked of single values, and how a hold moves, stands
 // here. A refusal hands every cell back as it was.
+
+#![tactic(auto)]
+
 ghost use Rattle.std.specs.Prelude.{◌≡◌, ◌-◌};
 ghost use Rattle.machine.specs.State.{is_current};
 ghost use Rattle.rules.specs.Rules.{placed, again, one_more, moved as Rules·moved};
@@ -13,21 +16,21 @@ use machine::{Cpu, CpuId, Current, Lock, Place, Run, Setup, Thread, ThreadId};
 use spinlock::Operation;
 
 // The code and the value of a record.
-#[derive(Drop)]
+#[derive(Clone, Copy)]
 pub struct Answered {
     pub code: Code,
     pub value: u32,
 }
 
 // A run cell after an operation, with its code.
-#[derive(Drop)]
+#[derive(Clone, Copy)]
 pub struct RunOut {
     pub code: Code,
     pub run: Run,
 }
 
 // A run cell and a thread's cell after an operation, with its code.
-#[derive(Drop)]
+#[derive(Clone, Copy)]
 pub struct SeatOut {
     pub code: Code,
     pub run: Run,
@@ -35,7 +38,7 @@ pub struct SeatOut {
 }
 
 // A CPU and a thread after an operation on the CPU, with its answer.
-#[derive(Drop)]
+#[derive(Clone, Copy)]
 pub struct CpuOut {
     pub answer: Answered,
     pub cpu: Cpu,
@@ -43,14 +46,14 @@ pub struct CpuOut {
 }
 
 // A thread's cell after an operation, with its answer.
-#[derive(Drop)]
+#[derive(Clone, Copy)]
 pub struct ThreadOut {
     pub answer: Answered,
     pub thread: Thread,
 }
 
 // A lock and the CPU that asks for it after an operation, with its answer.
-#[derive(Drop)]
+#[derive(Clone, Copy)]
 pub struct LockOut {
     pub answer: Answered,
     pub cpu: Cpu,
@@ -58,7 +61,7 @@ pub struct LockOut {
 }
 
 // The CPU that unwinds after its answer.
-#[derive(Drop)]
+#[derive(Clone, Copy)]
 pub struct UnwindOut {
     pub answer: Answered,
     pub cpu: Cpu,

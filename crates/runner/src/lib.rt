@@ -4,6 +4,9 @@
 // New here. Document 01, "Log records". There is one loop, and a step is a log of one record. The loop owns the machine and stores single
 // elements, since passing a machine through a function costs more than a record does. A caller can rely on these: a refused step or run leaves
 // the machine, and a refused run every byte.
+
+#![tactic(auto)]
+
 ghost use Rattle.std.specs.Prelude.{◌≡◌, true, ◌++◌, ◌+◌, ◌*◌, ◌/◌, ◌≤◌, length};
 ghost use Rattle.machine.specs.State.{setup_ok};
 ghost use Rattle.rules.specs.Rules.{answered_says};
@@ -19,14 +22,14 @@ use record::{Operation, RECORD_BYTES, Request};
 use rules::Answered;
 
 // A machine after a record, with the record's answer.
-#[derive(Drop)]
+#[derive(Clone, Copy)]
 pub struct Stepped {
     pub answer: Answered,
     pub machine: Machine,
 }
 
 // A machine after a log, with the run's code.
-#[derive(Drop)]
+#[derive(Clone, Copy)]
 pub struct Ran {
     pub code: Code,
     pub machine: Machine,

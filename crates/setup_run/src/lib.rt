@@ -2,6 +2,9 @@
 //
 // New here. Document 01, "What must change shape": the runner from setup byte and lent bytes. A caller can rely on these: the setup byte is
 // judged first, and a refusal changes no lent byte.
+
+#![tactic(auto)]
+
 ghost use Rattle.std.specs.Prelude.{◌≡◌, length};
 ghost use Rattle.error.specs.Codes.{number_of};
 ghost use Rattle.setup_run.specs.Run.{code_from_setup, room_from_setup};

@@ -1,5 +1,8 @@
 // Calls every single call of the five ported files on the limits of each range and writes a line for each: the call, its arguments, its
 // code and its value. The lines are held to the file `stdout`.
+
+#![tactic(auto)]
+
 mod codes;
 mod interrupt;
 mod lock;

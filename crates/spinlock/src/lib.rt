@@ -8,6 +8,9 @@
 //   acquire_again is new: a plain acquire by the CPU that holds the lock (document 02, request 6); the single call keeps upstream's EBUSY
 // What upstream requires, a valid record, is tested here: an invalid one is EINVAL in every call and comes back as given. A caller can
 // rely on these (proofs/Laws.antt): no call makes a valid record invalid, a refusal changes nothing, and a release undoes an acquire.
+
+#![tactic(auto)]
+
 ghost use Rattle.std.specs.Prelude.{◌≡◌, Bool, true, false, ◌<◌};
 ghost use Rattle.error.specs.Codes.{number_of};
 ghost use Rattle.spinlock.specs.Table.{row_of, column_of, code_of, code_again};
@@ -33,14 +36,14 @@ use error::Code;
 pub const MAX_NEST_DEPTH: u32 = 255;
 
 // Who holds a lock.
-#[derive(Drop)]
+#[derive(Clone, Copy)]
 pub enum Owner {
     None,
     Thread(u32),
 }
 
 // The lock record.
-#[derive(Drop)]
+#[derive(Clone, Copy)]
 pub struct SpinlockState {
     pub owner: Owner,
     pub nest_count: u32,
@@ -48,14 +51,14 @@ pub struct SpinlockState {
 }
 
 // A record after a call, with the call's code.
-#[derive(Drop)]
+#[derive(Clone, Copy)]
 pub struct Changed {
     pub code: Code,
     pub state: SpinlockState,
 }
 
 // The calls that change a record. An acquire is plain or nested.
-#[derive(Drop)]
+#[derive(Clone, Copy)]
 pub enum Operation {
     Acquire { nested: bool },
     Release,
@@ -63,7 +66,7 @@ pub enum Operation {
 
 // What a valid record is to a thread that asks: free, its own with room to nest, its own and full, or another's. Its own counts as another's
 // where it asks from another CPU than it took the lock on.
-#[derive(Drop)]
+#[derive(Clone, Copy)]
 pub enum Situation {
     Free,
     Own,

@@ -4,6 +4,9 @@
 //   release_check is named upstream and stands in no file: here it says whether the given thread owns the record
 // They are functions of the record by value. What upstream requires, a valid record, is tested here: an invalid one is EINVAL with 0, none
 // or no. Their definitions stand with those of the calls that change a record, in the crate spinlock.
+
+#![tactic(auto)]
+
 ghost use Rattle.std.specs.Prelude.{◌≡◌, false};
 ghost use Rattle.error.specs.Answer.{yes_no_says};
 ghost use Rattle.spinlock.specs.Lock.{
@@ -24,14 +27,14 @@ use error::{Code, YesNo};
 use spinlock::{Owner, SpinlockState};
 
 // A nesting depth, or 0 with the code of the refusal.
-#[derive(Drop)]
+#[derive(Clone, Copy)]
 pub struct Depth {
     pub code: Code,
     pub depth: u32,
 }
 
 // An owner, or none with the code of the refusal.
-#[derive(Drop)]
+#[derive(Clone, Copy)]
 pub struct OwnerRead {
     pub code: Code,
     pub owner: Owner,

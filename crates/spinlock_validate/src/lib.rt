@@ -8,6 +8,9 @@
 // Document 02, request 4: each takes the width of the tag, upstream's two bits or four, and goes by the one rule over the width.
 // What upstream requires of a caller is refused here with EINVAL. A caller can rely on these: a word that was made decodes to the one
 // CPU and the one thread that made it (proofs/Laws.antt), and nobody else may unlock it.
+
+#![tactic(auto)]
+
 ghost use Rattle.std.specs.Prelude.{◌≡◌, ◌^◌};
 ghost use Rattle.error.specs.Answer.{yes_no_says};
 ghost use Rattle.words.specs.Tag.{taggable as Tag·taggable, cpu_of};
@@ -31,7 +34,7 @@ pub const TAG_CPUS: u64 = 4;
 pub const WIDE_TAG_CPUS: u64 = 16;
 
 // How wide the tag is: two bits or four.
-#[derive(Drop)]
+#[derive(Clone, Copy)]
 pub enum Width {
     Narrow,
     Wide,
@@ -64,14 +67,14 @@ pub fn width_by(wide: bool) -> Width
 }
 
 // An owner word, or 0 with the code of the refusal.
-#[derive(Drop)]
+#[derive(Clone, Copy)]
 pub struct OwnerWord {
     pub code: Code,
     pub word: u64,
 }
 
 // What an owner word says.
-#[derive(Drop)]
+#[derive(Clone, Copy)]
 pub enum Decoded {
     Free,
     Held { thread: u64, cpu: u32 },

@@ -3,6 +3,9 @@
 //
 // New here; the definitions are in the crate rules, masks go by the crate cpu_mask, interrupts by ipi. A caller can rely on this: a refusal, of
 // numbers that no record may carry too, hands the thread's cell back as it was.
+
+#![tactic(auto)]
+
 ghost use Rattle.std.specs.Prelude.{◌≡◌, ◌&&◌, cond, ◌+◌, ◌≤◌};
 ghost use Rattle.error.specs.Codes.{EINVAL};
 ghost use Rattle.error.specs.Answer.{answer};

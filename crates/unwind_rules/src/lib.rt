@@ -3,6 +3,9 @@
 // New here; document 02, request 1. The definitions are in the crate rules. The answer and the CPU after it come from the CPU's own cells; only if
 // it is accepted is each lock asked whether its word names the CPU. A caller can rely on this: a refusal, of numbers that no record may carry
 // too, hands the CPU back as it was.
+
+#![tactic(auto)]
+
 ghost use Rattle.std.specs.Prelude.{◌≡◌, ◌&&◌};
 ghost use Rattle.error.specs.Codes.{number_of};
 ghost use Rattle.error.specs.Answer.{answer};

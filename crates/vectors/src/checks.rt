@@ -13,14 +13,14 @@ const MOST_CLAIM_BYTES: usize = program::MAX_ANSWER_BYTES + ANSWER_BYTES;
 const LARGE_NUMBER: u32 = 100000;
 
 // A stored number.
-#[derive(Drop)]
+#[derive(Clone, Copy)]
 enum Decimal {
     Number(u32),
     Malformed,
 }
 
 // A stored verdict: accepted, the record that differs, or the number of the code.
-#[derive(Drop)]
+#[derive(Clone, Copy)]
 enum Stored {
     Accepted,
     Differs(u32),

@@ -1,5 +1,8 @@
 // Replays stored logs and stored calls by the proved library and compares every byte of the answers, and has stored claims judged and compares the
 // verdicts. A line for each case says how it went, and for a log a second line says how it went in pieces.
+
+#![tactic(auto)]
+
 mod checks;
 mod pieces;
 
@@ -8,7 +11,7 @@ ghost use Rattle.std.specs.Prelude.{◌+◌, ◌*◌, ◌<◌, ◌≤◌, length
 use libc::STDOUT_FILENO;
 
 // What the lines of a file are: inputs of the program, calls, or claims with the verdict on them.
-#[derive(Drop)]
+#[derive(Clone, Copy)]
 enum Lines {
     Logs,
     Calls,

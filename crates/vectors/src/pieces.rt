@@ -26,7 +26,7 @@ const MAX_PIECES: u32 = 100000;
 
 // How a log is cut: the size of the first fragment, and that of each other one. With a spread, each other one has any size from 0 to that, drawn
 // from a seed.
-#[derive(Drop)]
+#[derive(Clone, Copy)]
 struct Cuts {
     first: usize,
     fixed: usize,
@@ -35,7 +35,7 @@ struct Cuts {
 }
 
 // What came of a log in fragments: whether every byte of it was taken, how many bytes of answers were written, and the code's number at the end.
-#[derive(Drop)]
+#[derive(Clone, Copy)]
 struct Outcome {
     whole: bool,
     size: usize,

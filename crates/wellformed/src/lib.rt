@@ -4,6 +4,9 @@
 // asks of one CPU, lock or thread is a function of the crate element_tests; here are the loops. They are fewer than the clauses: one for what
 // is asked of each CPU, one for what is asked of each thread, and one for the locks, which adds up the depths on its way. Only that one is
 // handed the machine, which is 4 KB. proofs/Facts.antt says the clauses as facts, and that the test is true exactly where they hold.
+
+#![tactic(auto)]
+
 ghost use Rattle.std.specs.Prelude.{◌≡◌, ◌&&◌, eqb, get_or};
 ghost use Rattle.machine.specs.State.{cpu_slots, thread_count, lock_count, no_cpu};
 ghost use Rattle.words.specs.Below.{all_below};
