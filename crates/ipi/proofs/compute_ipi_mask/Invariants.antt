@@ -23,7 +23,7 @@ use Rattle.ipi.proofs.compute_ipi_mask.Given as goal
 abbrev pub invariant-loop-ahead : goal.invariant-loop-ahead
 invariant-loop-ahead l =
     InRange l.current_cpu l.num_cpus l.max_cpus × (l.initial.ahead ≡ matching l.current_cpu l.target_cpu_mask l.num_cpus)
-    × Walked l.current_cpu (to_z w32 l.target_prio) l.target_cpu_mask l.cpus l.num_cpus l.ahead l.mask
+    × Walked l.current_cpu l.target_prio l.target_cpu_mask l.cpus l.num_cpus l.ahead l.mask
 
 abbrev pub decreases-loop-ahead : goal.decreases-loop-ahead
 decreases-loop-ahead l = ones l.ahead
