@@ -217,8 +217,8 @@ impl SpinlockState {
 
     // The record after an operation in a situation. What is refused stays as it was.
     fn after(self, operation: Operation, situation: Situation, tid: u32) -> SpinlockState
-        requires self_value { valid_record self ≡ true }
-        requires situation_value { (elsewhere : Bool) × (situation ≡ situation_at self tid elsewhere) }
+        requires valid { valid_record self ≡ true }
+        requires situated { (elsewhere : Bool) × (situation ≡ situation_at self tid elsewhere) }
         ensures { result ≡ Lock·after operation situation self tid }
     {
         match operation {

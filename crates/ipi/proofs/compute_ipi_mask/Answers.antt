@@ -24,47 +24,37 @@ pub returns-then-not-counts_fit : goal.returns-then-not-counts_fit
 unfolding compute_ipi_mask
 returns-then-not-counts_fit c = rw (sym c.counts_fit.ensures ∙ not-true _ c.if-not-counts_fit.true-raw)
 
--- TODO place lemma
-in_range : (c : tie.Else1 invariant-loop decreases-loop)
-    → InRange c.args.current_cpu c.args.num_cpus c.args.max_cpus
-in_range c = counts_say _ _ _ (sym c.counts_fit.ensures ∙ not-false _ c.if-not-counts_fit.false-raw)
-
 pub loop-ahead-init : goal.loop-ahead-init
 loop-ahead-init c =
     let a = c.args in
-    let r = in_range c in
+    let r = counts_say _ _ _ (sym c.counts_fit.ensures ∙ not-false _ c.if-not-counts_fit.false-raw) in
     let few : a.num_cpus < 32 = omega (arith, r.few, r.within) in
     let start = sets_out a.current_cpu a.target_cpu_mask a.num_cpus (omega (arith, r.present)) few in
     (r, start, rw start (walk_begins a.current_cpu _ a.target_cpu_mask a.cpus a.num_cpus (omega arith)))
 
--- TODO place lemma
-some : (c : tie.In-loop invariant-loop decreases-loop) → 0 < c.loop-ahead.ahead
-some c = omega arith
-
--- TODO place lemma
-here_below : (c : tie.In-loop invariant-loop decreases-loop) → count_trailing_zeros 32 c.loop-ahead.ahead < 16
-here_below c = let i = c.loop-ahead.invariant in omega (arith, (here_can (some c) i.2).0, i.0.within, i.0.few)
-
 pub bounds-cpus-at : goal.bounds-cpus-at
-bounds-cpus-at c = here_below c
+bounds-cpus-at c =
+    let i = c.loop-ahead.invariant in
+    let some : 0 < c.loop-ahead.ahead = omega arith in
+    omega (arith, (here_can some i.2).0, i.0.within, i.0.few)
 
 pub loop-ahead-preserved : goal.loop-ahead-preserved
 loop-ahead-preserved c =
     let i = c.loop-ahead.invariant in
-    (i.0, i.1, rw c.runs_less-less.ensures (turn (some c) i.2))
+    let some : 0 < c.loop-ahead.ahead = omega arith in
+    (i.0, i.1, rw c.runs_less-less.ensures (turn some i.2))
 
--- TODO place lemma
-one_fewer : (c : tie.In-loop invariant-loop decreases-loop) → ones (cleared c.loop-ahead.ahead) + 1 ≡ ones c.loop-ahead.ahead
-one_fewer c = cleared_ones 32 c.loop-ahead.ahead (some c) c.loop-ahead.invariant.2.ahead-fits
-
+-- A turn takes exactly one off the measure.
 pub loop-ahead-smaller : goal.loop-ahead-smaller
-loop-ahead-smaller c = omega (arith, one_fewer c)
+loop-ahead-smaller c =
+    let some : 0 < c.loop-ahead.ahead = omega arith in
+    omega (arith, cleared_ones 32 c.loop-ahead.ahead some c.loop-ahead.invariant.2.ahead_fits)
 
 pub returns : goal.returns
 returns c =
     let i = c.loop-ahead.invariant in
     let a = c.args in
-    let w = rw (c.loop-ahead-test.false, to_z-of_z w32 a.target_prio c.ranges.target_prio) at i.2 in
+    let w = rw c.loop-ahead-test.false at i.2 in
     let few : a.num_cpus ≤ 32 = omega (arith, i.0.few, i.0.within) in
     ap (answer OK) (walk_ends a.current_cpu a.target_prio a.target_cpu_mask a.cpus a.num_cpus few w)
     ∙ sym (ipi_succeeds a.current_cpu a.target_prio a.target_cpu_mask a.cpus a.num_cpus a.max_cpus i.0)

@@ -8,15 +8,15 @@ use Rattle.spinlock.proofs.SpinlockState.after.Goals as goal
 
 pub deeper-requires : goal.deeper-requires
 deeper-requires c =
-    (own_says _ _ c.requires.1.0 c.requires.0 (sym c.requires.1.1 ∙ c.in-Own.is)).1
+    (own_says _ _ c.requires.situated.0 c.requires.valid (sym c.requires.situated.1 ∙ c.in-Own.is)).1
 
 pub shallower-requires : goal.shallower-requires
 shallower-requires c =
-    (own_says _ _ c.requires.1.0 c.requires.0 (sym c.requires.1.1 ∙ c.in-Own-situation.is)).0.some
+    (own_says _ _ c.requires.situated.0 c.requires.valid (sym c.requires.situated.1 ∙ c.in-Own-situation.is)).0.some
 
 pub shallower-requires-in-Full-situation : goal.shallower-requires-in-Full-situation
 shallower-requires-in-Full-situation c =
-    (full_says _ _ c.requires.1.0 c.requires.0 (sym c.requires.1.1 ∙ c.in-Full-situation.is)).some
+    (full_says _ _ c.requires.situated.0 c.requires.valid (sym c.requires.situated.1 ∙ c.in-Full-situation.is)).some
 
 pub returns-in-Free : goal.returns-in-Free
 unfolding after
