@@ -54,7 +54,7 @@ pub returns : goal.returns
 returns c =
     let i = c.loop-ahead.invariant in
     let a = c.args in
-    let w = rw c.loop-ahead-test.false at i.2 in
+    let w = rw (c.loop-ahead-test.false, to_z-of_z w32 a.target_prio c.ranges.target_prio) at i.2 in
     let few : a.num_cpus ≤ 32 = omega (arith, i.0.few, i.0.within) in
     ap (answer OK) (walk_ends a.current_cpu a.target_prio a.target_cpu_mask a.cpus a.num_cpus few w)
     ∙ sym (ipi_succeeds a.current_cpu a.target_prio a.target_cpu_mask a.cpus a.num_cpus a.max_cpus i.0)
