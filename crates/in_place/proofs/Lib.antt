@@ -1,5 +1,2 @@
-pub mod Frame
-pub mod InPlace
 pub mod Laws
 pub mod OneResult
-pub mod Rest

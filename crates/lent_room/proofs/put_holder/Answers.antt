@@ -1,0 +1,60 @@
+-- A refusal stays; else the writer says whether there was room for the CPU, and so for all (`Cases`). Assumes nothing.
+use borrow.Author.Rules.{rules}
+use borrow.Author.Tests.{not-true, not-false}
+use mathlib.Core.Path.{sym, ◌∙◌}
+use mir.Syntax.{w32}
+use mir.ValLaws.{to_z-of_z}
+use Rattle.error.specs.Codes.{number_of}
+use Rattle.error.specs.Answer.{answer}
+use Rattle.words.specs.HighFirst.{high_first}
+use Rattle.lent_room.specs.Room.{holder_bytes}
+use Rattle.lent_room.proofs.Cases.{refused, no_room, done_before}
+use Rattle.lent_room.proofs.put_holder.Goals as goal
+
+pub returns-then-not-is_ok-clause-code : goal.returns-then-not-is_ok-clause-code
+returns-then-not-is_ok-clause-code c =
+    let a = c.args in
+    let bad = sym c.is_ok.ensures ∙ not-true _ c.if-not-is_ok.true-raw in
+    let k = refused (answer (number_of a.code) (holder_bytes a.thread a.cpu)) a.out.now bad in
+    to_z-of_z w32 c.number.result (record { sfits = c.number.type-inv }) ∙ c.number.ensures ∙ k.0
+
+pub returns-then-not-is_ok-clause-room : goal.returns-then-not-is_ok-clause-room
+returns-then-not-is_ok-clause-room c =
+    let a = c.args in
+    let bad = sym c.is_ok.ensures ∙ not-true _ c.if-not-is_ok.true-raw in
+    let k = refused (answer (number_of a.code) (holder_bytes a.thread a.cpu)) a.out.now bad in
+    k.1
+
+pub returns-then-not-put-clause-code : goal.returns-then-not-put-clause-code
+returns-then-not-put-clause-code c =
+    let a = c.args in
+    let good = sym c.is_ok.ensures ∙ not-false _ c.if-not-is_ok.false-raw in
+    let lacks = sym c.put.ensures.fits ∙ not-true _ c.if-not-put.true-raw in
+    let k = no_room (number_of a.code) good (high_first 8 a.thread) (high_first 1 a.cpu) a.out.now lacks in
+    k.0
+
+pub returns-then-not-put-clause-room : goal.returns-then-not-put-clause-room
+returns-then-not-put-clause-room c =
+    let a = c.args in
+    let good = sym c.is_ok.ensures ∙ not-false _ c.if-not-is_ok.false-raw in
+    let lacks = sym c.put.ensures.fits ∙ not-true _ c.if-not-put.true-raw in
+    let k = no_room (number_of a.code) good (high_first 8 a.thread) (high_first 1 a.cpu) a.out.now lacks in
+    c.put.ensures.room ∙ k.1
+
+pub returns-clause-code : goal.returns-clause-code
+returns-clause-code c =
+    let v = c.put_value in
+    let a = c.args in
+    let good = sym c.is_ok.ensures ∙ not-false _ c.if-not-is_ok.false-raw in
+    let has = sym c.put.ensures.fits ∙ not-false _ c.if-not-put.false-raw in
+    let k = done_before (number_of a.code) good (high_first 8 a.thread) (high_first 1 a.cpu) a.out.now has c.put.ensures.room v.ensures in
+    to_z-of_z w32 v.result (record { sfits = v.type-inv }) ∙ k.0
+
+pub returns-clause-room : goal.returns-clause-room
+returns-clause-room c =
+    let v = c.put_value in
+    let a = c.args in
+    let good = sym c.is_ok.ensures ∙ not-false _ c.if-not-is_ok.false-raw in
+    let has = sym c.put.ensures.fits ∙ not-false _ c.if-not-put.false-raw in
+    let k = done_before (number_of a.code) good (high_first 8 a.thread) (high_first 1 a.cpu) a.out.now has c.put.ensures.room v.ensures in
+    k.1
