@@ -1,6 +1,5 @@
 -- Each return is the case that the tests on the way name (`Cases`). Assumes nothing.
 use borrow.Author.Rules.{rules}
-use borrow.Author.Tests.{not-true, not-false}
 use mathlib.Core.Path.{sym, ◌∙◌}
 use native.Mathlib.Omega.{arith}
 use mir.Syntax.{w32}
@@ -27,13 +26,13 @@ returns-then-cpus-num_cpus c =
 pub returns-then-not-valid : goal.returns-then-not-valid
 returns-then-not-valid c =
     let a = c.args in
-    let bad = sym c.decode.ensures.valid ∙ not-true _ c.if-not-valid.true-raw in
+    let bad = sym c.decode.ensures.valid ∙ c.if-not-valid.true in
     wrong_active a.current_cpu a.target_prio a.target_cpu_mask a.cpus.now a.num_cpus a.max_cpus c.if-cpus-num_cpus.false bad
 
 pub returns : goal.returns
 returns c =
     let a = c.args in
-    let good = sym c.decode.ensures.valid ∙ not-false _ c.if-not-valid.false-raw in
+    let good = sym c.decode.ensures.valid ∙ c.if-not-valid.false in
     let same = to_z-of_z w32 a.target_prio c.ranges.target_prio in
     c.compute_ipi_mask-answer.ensures
     ∙ ruled a.current_cpu a.target_prio a.target_cpu_mask a.cpus.now a.num_cpus a.max_cpus c.if-cpus-num_cpus.false good (omega arith) _ same _

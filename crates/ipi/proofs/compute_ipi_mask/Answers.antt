@@ -5,7 +5,6 @@ use Prim.Native.Nat.{◌+◌, ◌≤◌, ◌<◌}
 use native.Mathlib.Omega.{arith}
 use mathlib.Core.Path.{◌≡◌, sym, ap, ◌∙◌}
 use borrow.Author.Rules.{rules}
-use borrow.Author.Tests.{not-true, not-false}
 use lib.Count.{ones, count_trailing_zeros}
 use lib.Pow.{pow_pos}
 use mir.Syntax.{w32}
@@ -22,12 +21,12 @@ use Rattle.ipi.proofs.compute_ipi_mask.Goals as goal
 
 pub returns-then-not-counts_fit : goal.returns-then-not-counts_fit
 unfolding compute_ipi_mask
-returns-then-not-counts_fit c = rw (sym c.counts_fit.ensures ∙ not-true _ c.if-not-counts_fit.true-raw)
+returns-then-not-counts_fit c = rw (sym c.counts_fit.ensures ∙ c.if-not-counts_fit.true)
 
 pub loop-ahead-init : goal.loop-ahead-init
 loop-ahead-init c =
     let a = c.args in
-    let r = counts_say _ _ _ (sym c.counts_fit.ensures ∙ not-false _ c.if-not-counts_fit.false-raw) in
+    let r = counts_say _ _ _ (sym c.counts_fit.ensures ∙ c.if-not-counts_fit.false) in
     let few : a.num_cpus < 32 = omega (arith, r.few, r.within) in
     let start = sets_out a.current_cpu a.target_cpu_mask a.num_cpus (omega (arith, r.present)) few in
     (r, start, rw start (walk_begins a.current_cpu _ a.target_cpu_mask a.cpus a.num_cpus (omega arith)))

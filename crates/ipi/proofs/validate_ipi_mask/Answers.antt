@@ -24,7 +24,7 @@ pub returns : goal.returns
 unfolding validate_ipi_mask
 returns c =
     let a = c.args in
-    let good = not-false _ c.if-not-max_cpus-current_cpu.false-raw in
+    let good = c.if-not-max_cpus-current_cpu.false in
     let p = present a.current_cpu a.max_cpus good in
     let below : a.current_cpu < 32 = omega (arith, p.0, p.1) in
     simp (good, shl_one 32 a.current_cpu below, test_bit a.current_cpu a.mask, top_test a.max_cpus a.mask)

@@ -2,7 +2,6 @@
 use mathlib.Core.Path.{◌≡◌}
 use mathlib.Core.Bool.{true, false, ◌&&◌}
 use lib.Dec.{leb}
-use borrow.Author.Tests.{not-true, not-false}
 use Rattle.mask_flags.specs.Flags.{mask_of_flags}
 use borrow.Author.Rules.{rules}
 use Rattle.mask_flags.proofs.mask_of_flags.Goals as goal
@@ -11,10 +10,10 @@ pub returns-then-not-is_running-pin_only : goal.returns-then-not-is_running-pin_
 unfolding mask_of_flags
 returns-then-not-is_running-pin_only c =
     let a = c.args in
-    let bad : leb a.is_running 1 && leb a.pin_only 1 ≡ false = not-true _ c.if-not-is_running-pin_only.true-raw in rw bad
+    let bad : leb a.is_running 1 && leb a.pin_only 1 ≡ false = c.if-not-is_running-pin_only.true in rw bad
 
 pub returns : goal.returns
 unfolding mask_of_flags
 returns c =
     let a = c.args in
-    let good : leb a.is_running 1 && leb a.pin_only 1 ≡ true = not-false _ c.if-not-is_running-pin_only.false-raw in rw good c.cpu_mask_mod.ensures
+    let good : leb a.is_running 1 && leb a.pin_only 1 ≡ true = c.if-not-is_running-pin_only.false in rw good c.cpu_mask_mod.ensures

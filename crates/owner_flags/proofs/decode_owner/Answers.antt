@@ -18,5 +18,5 @@ returns-in-1 c =
 pub returns-in_default : goal.returns-in_default
 returns-in_default c =
     let a = c.args in
-    let rest = c.in_default.rest in
+    let rest = c.in_default.in_default-own.rest in
     no_flag (λ k. spin_lock_decode_owner k a.thread_cpu) nobody a.wide rest.0.1 rest.1

@@ -2,7 +2,6 @@
 use mathlib.Core.Bool.{false}
 use mathlib.Core.Path.{sym, ◌∙◌}
 use borrow.Author.Rules.{rules}
-use borrow.Author.Tests.{not-true, not-false}
 use Rattle.spinlock_validate.specs.Owner.{spin_unlock_valid}
 use Rattle.owner_flags.proofs.ByFlag.{no_width, at_width}
 use Rattle.owner_flags.proofs.unlock_valid.Goals as goal
@@ -11,11 +10,11 @@ pub returns-then-not-is_flag : goal.returns-then-not-is_flag
 returns-then-not-is_flag c =
     let a = c.args in
     no_width (λ k. spin_unlock_valid k a.thread_cpu a.current_cpu_id a.current_thread) false a.wide
-    (sym c.is_flag.ensures ∙ not-true _ c.if-not-is_flag.true-raw)
+    (sym c.is_flag.ensures ∙ c.if-not-is_flag.true)
 
 pub returns : goal.returns
 returns c =
     let a = c.args in
-    let good = sym c.is_flag.ensures ∙ not-false _ c.if-not-is_flag.false-raw in
+    let good = sym c.is_flag.ensures ∙ c.if-not-is_flag.false in
     at_width (λ k. spin_unlock_valid k a.thread_cpu a.current_cpu_id a.current_thread) false a.wide good
     c.spin_unlock_valid.ensures c.width_by-width.ensures

@@ -1,6 +1,5 @@
 -- The two cases of the rule; the sum fits, since the thread word leaves room for the CPU. Assumes nothing.
 use borrow.Author.Rules.{rules}
-use borrow.Author.Tests.{not-true, not-false}
 use mathlib.Core.Path.{sym, ◌∙◌}
 use native.Mathlib.Omega.{arith}
 use Rattle.words.proofs.Tags.{taggable_says}
@@ -10,8 +9,8 @@ use Rattle.spinlock_validate.proofs.spin_unlock_valid.Goals as goal
 
 pub returns-then-not-taggable : goal.returns-then-not-taggable
 unfolding spin_unlock_valid
-returns-then-not-taggable c = simp (sym c.taggable.ensures ∙ not-true _ c.if-not-taggable.true-raw)
+returns-then-not-taggable c = simp (sym c.taggable.ensures ∙ c.if-not-taggable.true)
 
 pub returns : goal.returns
 unfolding spin_unlock_valid
-returns c = simp (sym c.taggable.ensures ∙ not-false _ c.if-not-taggable.false-raw)
+returns c = simp (sym c.taggable.ensures ∙ c.if-not-taggable.false)

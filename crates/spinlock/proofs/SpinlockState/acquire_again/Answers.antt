@@ -1,6 +1,5 @@
 -- An invalid record is the plain acquire's refusal; of a valid one the record is the plain acquire's, and the code the table's. Assumes nothing.
 use borrow.Author.Rules.{rules}
-use borrow.Author.Tests.{not-true, not-false}
 use mathlib.Core.Path.{sym, ◌∙◌}
 use mathlib.Core.Bool.{false}
 use Rattle.error.proofs.Answers.{same_value}
@@ -13,14 +12,14 @@ pub returns-then-not-valid : goal.returns-then-not-valid
 unfolding acquire_again
 returns-then-not-valid c =
     let a = c.args in
-    let bad = sym c.valid.ensures ∙ not-true _ c.if-not-valid.true-raw in
+    let bad = sym c.valid.ensures ∙ c.if-not-valid.true in
     rw bad (c.acquire-plain.ensures ∙ invalid_refused (Acquire false) a.self a.tid false bad)
 
 pub returns : goal.returns
 unfolding acquire_again
 returns c =
     simp (
-      sym c.valid.ensures ∙ not-false _ c.if-not-valid.false-raw,
+      sym c.valid.ensures ∙ c.if-not-valid.false,
       c.code_again.ensures,
       c.situation-situation.ensures,
       same_value c.acquire-plain.ensures,
