@@ -1,0 +1,16 @@
+-- Each field is read at its place. Assumes nothing.
+use borrow.Author.Rules.{rules}
+use mathlib.Core.Path.{ap, ◌∙◌}
+use mir.Syntax.{w32}
+use mir.ValLaws.{to_z-of_z}
+use Rattle.machine_bytes.specs.Bytes.{place_of}
+use Rattle.machine_bytes.proofs.Cells.{thread_read}
+use Rattle.machine_bytes.proofs.elements.thread_at.Goals as goal
+
+pub returns : goal.returns
+returns c =
+    let a = c.args in
+    let p = c.signed_at-priority in
+    thread_read _ a.bytes.now a.at c.four_at-mask.ensures
+    (to_z-of_z w32 p.result (record { sfits = p.type_inv }) ∙ p.ensures)
+    (c.place_of-place.ensures ∙ ap place_of c.tag_at.ensures)
