@@ -23,6 +23,6 @@ loop-i-preserved c =
     let h : l.i < length c.args.cpus = omega (arith, c) in (
       omega arith,
       ap length w.ensures.room ∙ length-sets l.out (6 + 14 * l.i) (cpu_bytes (get_or c.args.cpus l.i no_cpu)) ∙ l.invariant.1,
-      next_stored cpu_bytes 14 length_cpu cpu_of c.args.out.now 6 c.args.cpus no_cpu l.i l.out w.new.0 h l.invariant.2
+      next_stored cpu_bytes 14 length_cpu cpu_of c.args.out.now 6 c.args.cpus no_cpu l.i l.out w.new.out h l.invariant.2
           w.ensures.room w.ensures.back,
     )

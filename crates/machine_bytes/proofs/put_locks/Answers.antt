@@ -23,6 +23,6 @@ loop-i-preserved c =
     let h : l.i < length c.args.locks = omega (arith, c) in (
       omega arith,
       ap length w.ensures.room ∙ length-sets l.out (646 + 18 * l.i) (lock_bytes (get_or c.args.locks l.i free_lock)) ∙ l.invariant.1,
-      next_stored lock_bytes 18 length_lock lock_of c.args.out.now 646 c.args.locks free_lock l.i l.out w.new.0 h l.invariant.2
+      next_stored lock_bytes 18 length_lock lock_of c.args.out.now 646 c.args.locks free_lock l.i l.out w.new.out h l.invariant.2
           w.ensures.room w.ensures.back,
     )

@@ -23,6 +23,6 @@ loop-i-preserved c =
     let h : l.i < length c.args.threads = omega (arith, c) in (
       omega arith,
       ap length w.ensures.room ∙ length-sets l.out (230 + 13 * l.i) (thread_bytes (get_or c.args.threads l.i no_thread)) ∙ l.invariant.1,
-      next_stored thread_bytes 13 length_thread thread_of c.args.out.now 230 c.args.threads no_thread l.i l.out w.new.0 h l.invariant.2
+      next_stored thread_bytes 13 length_thread thread_of c.args.out.now 230 c.args.threads no_thread l.i l.out w.new.out h l.invariant.2
           w.ensures.room w.ensures.back,
     )

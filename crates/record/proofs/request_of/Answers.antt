@@ -8,24 +8,24 @@ use Rattle.record.proofs.request_of.Goals as goal
 
 pub returns-then-not-is_ok-clause-request : goal.returns-then-not-is_ok-clause-request
 returns-then-not-is_ok-clause-request c =
-    let told = in_arrays_by _ _ (c.malformed.ensures ∙ no_machine _ _ (sym c.is_ok.ensures ∙ c.if-not-is_ok.true)) in told.0
+    let told = in_arrays_by c.args.setup c.args.bytes.now (c.malformed.ensures ∙ no_machine _ _ (sym c.is_ok.ensures ∙ c.if-not-is_ok.true)) in told.0
 
 pub returns-then-bytes-ne-RECORD_BYTES-clause-request : goal.returns-then-bytes-ne-RECORD_BYTES-clause-request
 returns-then-bytes-ne-RECORD_BYTES-clause-request c =
     let ok = sym c.is_ok.ensures ∙ c.if-not-is_ok.false in
-    let told = in_arrays_by _ _ (c.malformed-then-bytes-ne-RECORD_BYTES.ensures ∙ not_twelve _ _ ok c.if-bytes-ne-RECORD_BYTES.true) in told.0
+    let told = in_arrays_by c.args.setup c.args.bytes.now (c.malformed-then-bytes-ne-RECORD_BYTES.ensures ∙ not_twelve _ _ ok c.if-bytes-ne-RECORD_BYTES.true) in told.0
 
 pub returns-then-f-ne0-clause-request : goal.returns-then-f-ne0-clause-request
 returns-then-f-ne0-clause-request c =
     let ok = sym c.is_ok.ensures ∙ c.if-not-is_ok.false in
-    let told = in_arrays_by _ _ (c.malformed-then-f-ne0.ensures ∙ not_zero _ _ ok _ c.if-bytes-ne-RECORD_BYTES.false c.fields_of-f.ensures c.if-f-ne0.true) in told.0
+    let told = in_arrays_by c.args.setup c.args.bytes.now (c.malformed-then-f-ne0.ensures ∙ not_zero _ _ ok _ c.if-bytes-ne-RECORD_BYTES.false c.fields_of-f.ensures c.if-f-ne0.true) in told.0
 
 pub returns-clause-request : goal.returns-clause-request
 returns-clause-request c =
     let ok = sym c.is_ok.ensures ∙ c.if-not-is_ok.false in
-    let told = in_arrays_by _ _ (c.carried.ensures ∙ by_row _ _ ok _ c.if-bytes-ne-RECORD_BYTES.false c.fields_of-f.ensures c.if-f-ne0.false) in told.0
+    let told = in_arrays_by c.args.setup c.args.bytes.now (c.carried.ensures ∙ by_row _ _ ok _ c.if-bytes-ne-RECORD_BYTES.false c.fields_of-f.ensures c.if-f-ne0.false) in told.0
 
 pub returns-clause-places : goal.returns-clause-places
 returns-clause-places c =
     let ok = sym c.is_ok.ensures ∙ c.if-not-is_ok.false in
-    let told = in_arrays_by _ _ (c.carried.ensures ∙ by_row _ _ ok _ c.if-bytes-ne-RECORD_BYTES.false c.fields_of-f.ensures c.if-f-ne0.false) in told.1
+    let told = in_arrays_by c.args.setup c.args.bytes.now (c.carried.ensures ∙ by_row _ _ ok _ c.if-bytes-ne-RECORD_BYTES.false c.fields_of-f.ensures c.if-f-ne0.false) in told.1

@@ -13,17 +13,11 @@ unfolding four_bytes
 returns-clause-room c =
     let a = c.args in
     let n = a.number in
-    let told = (
-      four_stores a.out.now a.at (n / 0x100_0000 % 256) (n / 0x1_0000 % 256) (n / 0x100 % 256) (n / 0x1 % 256),
-      high_first_back 4 n (omega arith),
-    ) in told.0
+    four_stores a.out.now a.at (n / 0x100_0000 % 256) (n / 0x1_0000 % 256) (n / 0x100 % 256) (n / 0x1 % 256)
 
 pub returns-clause-back : goal.returns-clause-back
 unfolding four_bytes
 returns-clause-back c =
     let a = c.args in
     let n = a.number in
-    let told = (
-      four_stores a.out.now a.at (n / 0x100_0000 % 256) (n / 0x1_0000 % 256) (n / 0x100 % 256) (n / 0x1 % 256),
-      high_first_back 4 n (omega arith),
-    ) in told.1
+    high_first_back 4 n (omega arith)

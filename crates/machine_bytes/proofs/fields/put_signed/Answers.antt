@@ -18,8 +18,5 @@ returns-clause-back c =
     let b = c.bits in
     let z = c.args.number in
     let e : b.result ≡ from_signed 31 z = b.ensures ∙ ap (from_signed 31) (to_z-of_z w32 z c.ranges.number) in
-    let told = (
-      p.ensures.room ∙ ap (λ (n : ℕ). sets c.args.out.now c.args.at (four_bytes n)) e,
-      ap (λ (n : ℕ). to_signed 31 (from_high_first (four_bytes n))) (sym e) ∙ ap (to_signed 31) (p.ensures.back ∙ e)
-          ∙ to_from_signed 31 z (signed_fits z c.ranges.number),
-    ) in told.1
+    ap (λ (n : ℕ). to_signed 31 (from_high_first (four_bytes n))) (sym e) ∙ ap (to_signed 31) (p.ensures.back ∙ e)
+          ∙ to_from_signed 31 z (signed_fits z c.ranges.number)

@@ -9,8 +9,5 @@ pub returns-clause-room : goal.returns-clause-room
 returns-clause-room c =
     let p = c.put_four in
     let a = c.args in
-    let told = (
-      behind a.out.now a.at (yes_bytes a.tag.present) (four_bytes a.tag.number) 1 (length_yes a.tag.present)
-          c.put_yes.ensures p.ensures.room,
-      p.ensures.back,
-    ) in told.0
+    behind a.out.now a.at (yes_bytes a.tag.present) (four_bytes a.tag.number) 1 (length_yes a.tag.present)
+          c.put_yes.ensures p.ensures.room
