@@ -1,6 +1,5 @@
 -- By the length of the room, and the parts stored behind one another (`Whole`). Assumes nothing.
 use borrow.Author.Rules.{rules}
-use lib.ListN.{length-map}
 use Rattle.machine_bytes.proofs.Whole.{Lengths, no_room, enough_room, machine_stored}
 use Rattle.machine_bytes.proofs.put_machine.Goals as goal
 
@@ -8,9 +7,9 @@ pub returns-then-out-lt-MACHINE_BYTES : goal.returns-then-out-lt-MACHINE_BYTES
 returns-then-out-lt-MACHINE_BYTES c =
     let good = c.well_formed.1.0 in
     let made : Lengths c.args.m = record {
-      cpus = simp length-map at good.1.1.1.0.1.0.1;
-      threads = simp length-map at good.1.1.1.1.0.1.0.1;
-      locks = simp length-map at good.1.1.1.1.1.0.1.0.1;
+      cpus = good.1.1.1.0.1.0.1;
+      threads = good.1.1.1.1.0.1.0.1;
+      locks = good.1.1.1.1.1.0.1.0.1;
     } in
     let told = no_room c.args.m made c.args.out.now c.if-out-lt-MACHINE_BYTES.true in
     record {
@@ -25,9 +24,9 @@ pub returns : goal.returns
 returns c =
     let good = c.well_formed.1.0 in
     let made : Lengths c.args.m = record {
-      cpus = simp length-map at good.1.1.1.0.1.0.1;
-      threads = simp length-map at good.1.1.1.1.0.1.0.1;
-      locks = simp length-map at good.1.1.1.1.1.0.1.0.1;
+      cpus = good.1.1.1.0.1.0.1;
+      threads = good.1.1.1.1.0.1.0.1;
+      locks = good.1.1.1.1.1.0.1.0.1;
     } in
     let m = c.args.m in
     let room = c.args.out.now in

@@ -1,0 +1,39 @@
+-- The loop's invariant: `ok` says whether the test holds below `l`, and `sums` are the sums over the locks below `l`. The measure is what is
+-- left. Assumes nothing.
+use Prim.Native.Nat.{◌+◌, ◌-◌, ◌≤◌, ◌<◌}
+use mathlib.Core.Path.{◌≡◌, sym, ap, ◌∙◌}
+use mathlib.Core.Logic.{⊎_elim}
+use borrow.Author.Rules.{rules}
+use native.Mathlib.Omega.{arith}
+use lib.Dec.{eqb}
+use Rattle.wellformed.proofs.Tests.{turn_one, all_same}
+use Rattle.wellformed.proofs.Sums.{Summed, none_yet, turn_free, turn_named}
+use Rattle.words.specs.Below.{all_below}
+use Rattle.wellformed.specs.WellFormed.{sum_below, lock_ok, hold_ok}
+use Rattle.machine.specs.State.{cpu_slots, lock_count, cpu_at}
+use Rattle.machine.proofs.Size.{named_in_slots}
+use Rattle.wellformed.proofs.locks_ok.Goals as goal
+
+pub loop-l-init : goal.loop-l-init
+unfolding all_below
+loop-l-init c = (search rules, search rules, none_yet _)
+
+pub loop-l-preserved : goal.loop-l-preserved
+loop-l-preserved c =
+    let m = c.args.m in
+    let summed : Summed m c.if-k-ne0.sums (c.loop-l.l + 1) =
+    ⊎_elim
+    (λ w.
+    let below : w.1.result.0 < cpu_slots = rw w.1.ensures (named_in_slots m.setup _) in
+    rw w.5 (turn_named m _ _ _ _ c.loop-l.invariant.2 (sym w.1.ensures) below w.3.ensures (omega arith)))
+    (λ w. rw w.1 (turn_free m _ _ c.loop-l.invariant.2 w.0.left))
+    c.if-k-ne0.branch in
+    (search rules, turn_one _ _ c.loop-l.invariant.1 c.lock_ok-ok.ensures, summed)
+
+pub returns : goal.returns
+returns c =
+    let loop = c.loop-l in
+    let m = c.args.m in
+    let all : loop.l ≡ lock_count = omega arith in
+    let holds = all_same _ (hold_ok m) cpu_slots (λ i h. ap (eqb (cpu_at m i).hold) (loop.invariant.2.each i h ∙ ap (sum_below _) all)) in
+    cc
