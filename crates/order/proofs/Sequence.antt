@@ -48,7 +48,7 @@ module _ {M R A : Type 0} (next : M → R → M) (ans : M → R → A) where
         record {
           state = later.state ∙ ap (λ x. end x (λ i. f (suc (skip p i))) n) swapped.state;
           own = later.own ∙ swapped.second;
-          others = λ i. elim i [
+          others = λ i. elim i as (λ k. answer m f (skip (suc p) k) ≡ answer (next m (f (suc p))) (λ j. f (skip (suc p) j)) k) [
             | zero ↦ sym swapped.first
             | suc j ↦ later.others j ∙ ap (λ x. answer x (λ k. f (suc (skip p k))) j) swapped.state
           ];
@@ -87,7 +87,7 @@ module _ {M R A : Type 0} (next : M → R → M) (ans : M → R → A) where
         (rest_reordered n old new π r) in
         record {
           state = ap (λ x. end (next m x) (λ i. new (suc i)) n) at ∙ later.state ∙ sym pulled.state;
-          each = λ k. elim k [
+          each = λ k. elim k as (λ i. i < suc n → answer m new i ≡ answer m old (π i)) [
             | zero ↦ λ h. ap (ans m) at ∙ sym pulled.own
             | suc j ↦ λ h.
                 ap (λ x. answer (next m x) (λ i. new (suc i)) j) at ∙ later.each j (omega arith) ∙ sym (pulled.others (rest π j))

@@ -16,5 +16,4 @@ loop-c-init c = search rules
 pub loop-c-preserved : goal.loop-c-preserved
 loop-c-preserved c =
     let below = c.loop-c.invariant.1 in
-    (search rules, turn _ _ below c.Slot-ok.ensures c.current_ok.ensures c.idle_ok.ensures refl)
--- FLAGS c.before.before.Slot-ok.ensures
+    (search rules, turn _ _ below c.slot_ok.ensures c.current_ok.ensures c.idle_ok.ensures refl)

@@ -13,6 +13,7 @@ use Rattle.wellformed.specs.WellFormed.{sum_below, lock_ok, hold_ok}
 use Rattle.machine.specs.State.{cpu_slots, lock_count, cpu_at}
 use Rattle.machine.proofs.Size.{named_in_slots}
 use Rattle.wellformed.proofs.locks_ok.Goals as goal
+use Rattle.wellformed.proofs.locks_ok.Goals.{then-k-ne0, else-k-ne0}
 
 pub loop-l-init : goal.loop-l-init
 unfolding all_below
@@ -21,13 +22,13 @@ loop-l-init c = (search rules, search rules, none_yet _)
 pub loop-l-preserved : goal.loop-l-preserved
 loop-l-preserved c =
     let m = c.args.m in
-    let summed : Summed m c.if-k-ne0.sums (c.loop-l.l + 1) =
-    ⊎_elim
-    (λ w.
-    let below : w.1.result.0 < cpu_slots = rw w.1.ensures (named_in_slots m.setup _) in
-    rw w.5 (turn_named m _ _ _ _ c.loop-l.invariant.2 (sym w.1.ensures) below w.3.ensures (omega arith)))
-    (λ w. rw w.1 (turn_free m _ _ c.loop-l.invariant.2 w.0.left))
-    c.if-k-ne0.branch in
+    let summed : Summed m c.if-k-ne0.sums (c.loop-l.l + 1) = elim c.if-k-ne0.branch [
+      then-k-ne0 w ↦
+          let below : w.cpu_of-c.result.0 < cpu_slots = rw w.cpu_of-c.ensures (named_in_slots m.setup _) in
+          rw w.sums-is
+            (turn_named m _ _ _ _ c.loop-l.invariant.2 (sym w.cpu_of-c.ensures) below w.depth_for.ensures (omega arith))
+    | else-k-ne0 w ↦ rw w.sums-is (turn_free m _ _ c.loop-l.invariant.2 w.if-k-ne0.false)
+    ] in
     (search rules, turn_one _ _ c.loop-l.invariant.1 c.lock_ok-ok.ensures, summed)
 
 pub returns : goal.returns

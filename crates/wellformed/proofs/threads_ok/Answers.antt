@@ -15,8 +15,7 @@ loop-t-init c = search rules
 
 pub loop-t-preserved : goal.loop-t-preserved
 loop-t-preserved c =
-    let place = c.Place-ok in
+    let place = c.place_ok in
     let priority = c.priority_ok in
     let below = c.loop-t.invariant.1 in
     (search rules, turn_four _ _ below place.ensures priority.ensures c.mask_ok.ensures c.pin_ok.ensures refl)
--- FLAGS c.before.before.before.Place-ok
