@@ -35,7 +35,7 @@ returns-in-Priority c =
     let a = c.args in
     let both = ap₂ (λ (x y : Bool). x && y) c.has_cpu.ensures c.carriable.ensures in
     let z = c.in-Priority.a in
-    let fits : SFits w32 z = record { sfits = c.known_told-in-Priority-1.given.0.1 } in
+    let fits : SFits w32 z = record { sfits = search rules } in
     c.priority.ensures ∙ ap (λ (p : ℤ). applied_to a.thread (priority p a.thread)) (to_z-of_z w32 z fits)
     ∙ ap (λ (o : ThreadOperation). on_thread a.setup o a.c.0 a.thread) (sym c.in-Priority.is)
     ∙ within a.thread _ (sym both ∙ c.if-not-has_cpu-carriable.false)
