@@ -28,8 +28,7 @@ pub use run::hubcrackle_run;
 use spinlock_validate::Decoded;
 
 // The owner word of a thread on a CPU: 8 bytes.
-#[unsafe(no_mangle)]
-pub extern "C" fn hubcrackle_spin_lock_compute_owner(
+pub fn hubcrackle_spin_lock_compute_owner(
     current_cpu_id: u32,
     current_thread: u64,
     wide: u32,
@@ -44,8 +43,7 @@ pub extern "C" fn hubcrackle_spin_lock_compute_owner(
 }
 
 // The thread and the CPU in an owner word: 8 bytes and 1, all zero for a free lock.
-#[unsafe(no_mangle)]
-pub extern "C" fn hubcrackle_spin_lock_decode_owner(
+pub fn hubcrackle_spin_lock_decode_owner(
     thread_cpu: u64,
     wide: u32,
     out: &mut [u8],
@@ -61,8 +59,7 @@ pub extern "C" fn hubcrackle_spin_lock_decode_owner(
 }
 
 // Whether a CPU may go for the lock that has this word: 1 byte.
-#[unsafe(no_mangle)]
-pub extern "C" fn hubcrackle_spin_lock_valid(
+pub fn hubcrackle_spin_lock_valid(
     thread_cpu: u64,
     current_cpu_id: u32,
     wide: u32,
@@ -77,8 +74,7 @@ pub extern "C" fn hubcrackle_spin_lock_valid(
 }
 
 // Whether this thread on this CPU may unlock the lock that has this word: 1 byte.
-#[unsafe(no_mangle)]
-pub extern "C" fn hubcrackle_spin_unlock_valid(
+pub fn hubcrackle_spin_unlock_valid(
     thread_cpu: u64,
     current_cpu_id: u32,
     current_thread: u64,
@@ -95,8 +91,7 @@ pub extern "C" fn hubcrackle_spin_unlock_valid(
 
 // The mask with bits enabled and then disabled: 4 bytes. A refusal does not write the current mask. The two codes that the rule gives are told
 // apart by one test: a jump by the code costs more than the rule (docs/PERFORMANCE.md).
-#[unsafe(no_mangle)]
-pub extern "C" fn hubcrackle_cpu_mask_mod(
+pub fn hubcrackle_cpu_mask_mod(
     current_mask: u32,
     enable: u32,
     disable: u32,
@@ -117,8 +112,7 @@ pub extern "C" fn hubcrackle_cpu_mask_mod(
 }
 
 // Whether a mask names exactly one CPU: 1 byte.
-#[unsafe(no_mangle)]
-pub extern "C" fn hubcrackle_validate_pin_mask(mask: u32, out: &mut [u8]) -> i32
+pub fn hubcrackle_validate_pin_mask(mask: u32, out: &mut [u8]) -> i32
     ensures code { result ≡ call_code (pin_test mask) (length out.old) }
     ensures room { out.new ≡ call_room (pin_test mask) out.old }
 {
@@ -126,8 +120,7 @@ pub extern "C" fn hubcrackle_validate_pin_mask(mask: u32, out: &mut [u8]) -> i32
 }
 
 // The mask of one CPU: 4 bytes.
-#[unsafe(no_mangle)]
-pub extern "C" fn hubcrackle_cpu_pin_compute(cpu_id: u32, max_cpus: u32, out: &mut [u8]) -> i32
+pub fn hubcrackle_cpu_pin_compute(cpu_id: u32, max_cpus: u32, out: &mut [u8]) -> i32
     ensures code { result ≡ call_code (pin cpu_id max_cpus) (length out.old) }
     ensures room { out.new ≡ call_room (pin cpu_id max_cpus) out.old }
 {
@@ -138,8 +131,7 @@ pub extern "C" fn hubcrackle_cpu_pin_compute(cpu_id: u32, max_cpus: u32, out: &m
 }
 
 // The mask of the CPUs to interrupt, from five bytes a CPU: 4 bytes.
-#[unsafe(no_mangle)]
-pub extern "C" fn hubcrackle_compute_ipi_mask(
+pub fn hubcrackle_compute_ipi_mask(
     current_cpu: u32,
     target_prio: i32,
     target_cpu_mask: u32,
@@ -164,8 +156,7 @@ pub extern "C" fn hubcrackle_compute_ipi_mask(
 }
 
 // Whether a mask can be one that was computed for this CPU: 1 byte.
-#[unsafe(no_mangle)]
-pub extern "C" fn hubcrackle_validate_ipi_mask(
+pub fn hubcrackle_validate_ipi_mask(
     mask: u32,
     current_cpu: u32,
     max_cpus: u32,

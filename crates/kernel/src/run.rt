@@ -3,8 +3,7 @@ ghost use Rattle.std.specs.Prelude.{◌≡◌, length};
 ghost use Rattle.setup_run.specs.Run.{code_from_setup, room_from_setup};
 
 // The answers of a log, from the machine that a setup byte asks for: 8 bytes a record.
-#[unsafe(no_mangle)]
-pub extern "C" fn hubcrackle_run(setup: u8, log: &[u8], out: &mut [u8]) -> i32
+pub fn hubcrackle_run(setup: u8, log: &[u8], out: &mut [u8]) -> i32
     ensures code { result ≡ code_from_setup setup log.now (length out.old) }
     ensures room { out.new ≡ room_from_setup setup log.now out.old }
 {

@@ -16,8 +16,7 @@ use claims::Verdict;
 const DIFFERS: i32 = 1;
 
 // A claim to a log on the machine that a setup byte asks for, and the lowest record whose answer differs.
-#[unsafe(no_mangle)]
-pub extern "C" fn hubcrackle_check(setup: u8, log: &[u8], claim: &[u8], record: &mut u32) -> i32
+pub fn hubcrackle_check(setup: u8, log: &[u8], claim: &[u8], record: &mut u32) -> i32
     ensures result { result ≡ result_of (judged setup log.now claim.now) }
     ensures record { «record».new
         ≡ record_after (judged setup log.now claim.now) «record».old }

@@ -22,8 +22,7 @@ ghost use Rattle.form_bytes.specs.Form.{
 };
 
 // A form with nothing pending, on the machine that a setup byte asks for: 2,962 bytes.
-#[unsafe(no_mangle)]
-pub extern "C" fn hubcrackle_start(setup: u8, form: &mut [u8]) -> i32
+pub fn hubcrackle_start(setup: u8, form: &mut [u8]) -> i32
     ensures code { result ≡ start_code setup (length form.old) }
     ensures form { form.new ≡ start_room setup form.old }
     ensures back { form_of form.new ≡ start_form setup form.old }
@@ -33,8 +32,7 @@ pub extern "C" fn hubcrackle_start(setup: u8, form: &mut [u8]) -> i32
 }
 
 // A fragment: the answers of the records that it completes, 8 bytes each, and how many there are.
-#[unsafe(no_mangle)]
-pub extern "C" fn hubcrackle_feed(
+pub fn hubcrackle_feed(
     form: &mut [u8],
     fragment: &[u8],
     out: &mut [u8],
@@ -56,8 +54,7 @@ pub extern "C" fn hubcrackle_feed(
 }
 
 // The end of a log.
-#[unsafe(no_mangle)]
-pub extern "C" fn hubcrackle_finish(form: &[u8]) -> i32
+pub fn hubcrackle_finish(form: &[u8]) -> i32
     ensures { result ≡ finished_code form.now }
 {
     let ended = form_bytes::finish_form(form);
