@@ -1,11 +1,11 @@
 #!/usr/bin/env python3
 """Writes logs and claimed answers into files, runs the program check_logs on them, and compares every line that it writes.
 
-Usage: tests/check_logs.py [PROGRAM], by default target/bin/check_logs, which `rt check check_logs` makes if it is not there. The program runs on
-x86-64 Linux. First come the stored logs of crates/vectors with their answers, right and with bits flipped, and the stored claims with their
-verdicts. Then a thousand pairs in one command, also with few descriptors; files that are missing, empty, folders, too long, cut off or not allowed;
-pipes, by which a line is seen to be written before the next pair is read; and the memory that a short log takes and the longest. What a line has to
-say is worked out here from the documents 01 and 02 and the stored answers. Ends with status 1 at the first wrong line.
+Usage: tests/check_logs.py [PROGRAM], by default crates/check_logs/out/check_logs, which `rt run` makes in crates/check_logs if it is not there. The
+program runs on x86-64 Linux. First come the stored logs of crates/vectors with their answers, right and with bits flipped, and the stored claims
+with their verdicts. Then a thousand pairs in one command, also with few descriptors; files that are missing, empty, folders, too long, cut off or
+not allowed; pipes, by which a line is seen to be written before the next pair is read; and the memory that a short log takes and the longest. What
+a line has to say is worked out here from the documents 01 and 02 and the stored answers. Ends with status 1 at the first wrong line.
 """
 import os
 import pwd
@@ -373,11 +373,12 @@ def memory(program, right):
 
 
 def main():
-    program = os.path.abspath(sys.argv[1]) if len(sys.argv) > 1 else os.path.join(ROOT, "target", "bin", "check_logs")
+    crate = os.path.join(ROOT, "crates", "check_logs")
+    program = os.path.abspath(sys.argv[1]) if len(sys.argv) > 1 else os.path.join(crate, "out", "check_logs")
     if len(sys.argv) < 2 and not os.path.exists(program):
-        made = subprocess.run(["rt", "check", "check_logs"], cwd=ROOT, capture_output=True, text=True)
+        made = subprocess.run(["rt", "run"], cwd=crate, stdin=subprocess.DEVNULL, capture_output=True)
         if made.returncode != 0:
-            sys.exit(made.stdout + made.stderr)
+            sys.exit(made.stderr.decode())
     with tempfile.TemporaryDirectory() as folder:
         os.chdir(folder)
         cases = stored_logs(program) + stored_claims(program) + sizes(program)

@@ -1,10 +1,10 @@
 #!/usr/bin/env python3
 """Sends logs in pieces through a pipe to the program follow, and reads every answer before the next piece is sent.
 
-Usage: tests/follow.py [PROGRAM [FILE]], by default target/bin/follow, which `rt check follow` makes if it is not there, and the stored logs of
-crates/vectors. The program runs on x86-64 Linux. Each stored log is sent byte by byte and at random cuts, and once more without its end; then
-nothing at all and every bad setup byte; then logs far longer than a fragment may be. The answers of the stored logs are stored with them, and
-those of the long logs are worked out here from the documents 01 and 02. Ends with status 1 at the first wrong byte, and where an answer is not
+Usage: tests/follow.py [PROGRAM [FILE]], by default crates/follow/out/follow, which `rt run` makes in crates/follow if it is not there, and the
+stored logs of crates/vectors. The program runs on x86-64 Linux. Each stored log is sent byte by byte and at random cuts, and once more without its
+end; then nothing at all and every bad setup byte; then logs far longer than a fragment may be. The answers of the stored logs are stored with them,
+and those of the long logs are worked out here from the documents 01 and 02. Ends with status 1 at the first wrong byte, and where an answer is not
 there in time.
 """
 import os
@@ -177,11 +177,12 @@ def long_logs(program):
 
 
 def main():
-    program = os.path.abspath(sys.argv[1]) if len(sys.argv) > 1 else os.path.join(ROOT, "target", "bin", "follow")
+    crate = os.path.join(ROOT, "crates", "follow")
+    program = os.path.abspath(sys.argv[1]) if len(sys.argv) > 1 else os.path.join(crate, "out", "follow")
     if len(sys.argv) < 2 and not os.path.exists(program):
-        made = subprocess.run(["rt", "check", "follow"], cwd=ROOT, capture_output=True, text=True)
+        made = subprocess.run(["rt", "run"], cwd=crate, stdin=subprocess.DEVNULL, capture_output=True)
         if made.returncode != 0:
-            sys.exit(made.stdout + made.stderr)
+            sys.exit(made.stderr.decode())
     path = sys.argv[2] if len(sys.argv) > 2 else os.path.join(ROOT, "crates", "vectors", "data", "logs-after-06.txt")
     logs = total = 0
     with open(path) as lines:

@@ -1,12 +1,15 @@
 // A pair is judged, and its line written.
 use crate::files::Content;
-use crate::{files, names, say};
+use crate::say::Count;
+use crate::{files, names};
 use answers::ANSWER_BYTES;
 use claims::Verdict;
 use error::Code;
 use log_tests::MAX_LOG_BYTES;
 use program::MAX_ANSWER_BYTES;
 use record::RECORD_BYTES;
+use std::io;
+use std::rt::Files;
 
 // Room for the longest input of replay, a setup byte and a log, and for its longest answers, and in each for one byte more, so that a longer file
 // shows.
@@ -29,30 +32,24 @@ pub(crate) enum Outcome {
 }
 
 // The line for a name that no path can have.
-pub(crate) fn too_long(number: usize) -> Outcome {
-    say::text(b"argument ");
-    say::size(number);
-    say::text(b": refused, the name is too long\n");
-    Outcome::Refused
+pub(crate) fn too_long(rt: &impl Print, number: usize) -> io::Result<Outcome> {
+    println!(rt; "argument {number}: refused, the name is too long")?;
+    Ok(Outcome::Refused)
 }
 
 // The line for a log that stands alone at the end of the arguments.
-pub(crate) fn no_answers(log_name: &[u8]) -> Outcome {
-    say::text(log_name);
-    say::text(b": refused, no answers are named\n");
-    Outcome::Refused
+pub(crate) fn no_answers(rt: &impl Print, log_name: &[u8]) -> io::Result<Outcome> {
+    rt.write_all(log_name)?;
+    println!(rt; ": refused, no answers are named")?;
+    Ok(Outcome::Refused)
 }
 
 // The end of the line for a file of which there is nothing to judge.
-fn not_there(what: &[u8], failed: &[u8], error: i32) -> Outcome {
-    say::text(b"refused, ");
-    say::text(what);
-    say::text(b" cannot be ");
-    say::text(failed);
-    say::text(b": ");
-    names::error(error);
-    say::text(b"\n");
-    Outcome::Refused
+fn not_there(rt: &impl Print, what: &str, failed: &str, error: &io::Error) -> io::Result<Outcome> {
+    print!(rt; "refused, {what} cannot be {failed}: ")?;
+    names::print_error(rt, error)?;
+    println!(rt)?;
+    Ok(Outcome::Refused)
 }
 
 // The bytes up to a place, or all.
@@ -81,127 +78,117 @@ fn word_at(s: &[u8], at: usize) -> u32 {
     )
 }
 
-// The answer over the front of some bytes: its code by name, and its value.
-fn say_answer(answer: &[u8]) {
-    names::code_of_bits(word_at(answer, 0));
-    say::text(b" ");
-    say::decimal(word_at(answer, VALUE_AT) as u64);
+// Writes the answer over the front of some bytes: its code by name, and its value.
+fn print_answer(rt: &impl Print, answer: &[u8]) -> io::Result<()> {
+    names::print_code(rt, word_at(answer, 0))?;
+    print!(rt; " {}", word_at(answer, VALUE_AT))
+}
+
+// What a record of an input asks for, by name.
+fn asked(input: &[u8], at: usize) -> &'static str {
+    let made = machine::from_setup_byte(byte_at(input, 0));
+    let fresh = made.machine;
+    let request = record::request_of(fresh.setup, front_of(rest_of(input, at), RECORD_BYTES));
+    names::operation(request.operation)
 }
 
 // The end of the line for a claim that is wrong: the lowest record whose answer differs, what it asks for, the answer that is claimed, and the one
 // that a run of the log up to this record gives.
-fn differs(input: &[u8], claim: &[u8], lowest: u32) -> Outcome {
+fn differs(rt: &impl Print, input: &[u8], claim: &[u8], lowest: u32) -> io::Result<Outcome> {
     let number = lowest as usize;
     let at = number * RECORD_BYTES + SETUP_BYTES;
     let answer_at = number * ANSWER_BYTES;
-    let made = machine::from_setup_byte(byte_at(input, 0));
-    let fresh = made.machine;
-    let setup = fresh.setup;
-    let request = record::request_of(setup, front_of(rest_of(input, at), RECORD_BYTES));
     let mut right = [0u8; MAX_ANSWER_BYTES];
     program::respond(front_of(input, at + RECORD_BYTES), &mut right);
-    say::text(b"record ");
-    say::size(number);
-    say::text(b" differs: ");
-    let operation = request.operation;
-    names::operation(operation);
-    say::text(b", claimed ");
-    say_answer(rest_of(claim, answer_at));
-    say::text(b", right ");
-    say_answer(rest_of(&right, answer_at));
-    say::text(b"\n");
-    Outcome::Differs
+    print!(rt; "record {number} differs: {}, claimed ", asked(input, at))?;
+    print_answer(rt, rest_of(claim, answer_at))?;
+    print!(rt; ", right ")?;
+    print_answer(rt, rest_of(&right, answer_at))?;
+    println!(rt)?;
+    Ok(Outcome::Differs)
 }
 
-// How many bytes of answers there are.
-fn say_claimed(size: usize) {
+// Writes how many bytes of answers there are.
+fn print_claimed(rt: &impl Print, size: usize) -> io::Result<()> {
     if size == 0 {
-        say::text(b"no answers");
-        return;
-    }
-    if size > MAX_ANSWER_BYTES {
-        say::text(b"more than ");
-        say::counted(MAX_ANSWER_BYTES, b"byte");
+        print!(rt; "no answers")
+    } else if size > MAX_ANSWER_BYTES {
+        print!(rt; "more than {} of answers", Count(MAX_ANSWER_BYTES, "byte"))
     } else {
-        say::counted(size, b"byte");
+        print!(rt; "{} of answers", Count(size, "byte"))
     }
-    say::text(b" of answers");
 }
 
-// Why a pair is refused, in words: by the setup byte and the sizes, in the order in which they are judged.
-fn say_why(input: &[u8], claimed: usize) {
+// Writes why a pair is refused: by the setup byte and the sizes, in the order in which they are judged.
+fn print_why(rt: &impl Print, input: &[u8], claimed: usize) -> io::Result<()> {
     if input.len() == 0 {
-        say::text(b"no setup byte");
-        return;
+        return print!(rt; "no setup byte");
     }
     let made = machine::from_setup_byte(input[0]);
-    let code = made.code;
-    if !error::is_ok(code) {
-        say::text(b"a bad setup byte");
-        return;
+    if !error::is_ok(made.code) {
+        return print!(rt; "a bad setup byte");
     }
     let size = input.len() - SETUP_BYTES;
     if size > MAX_LOG_BYTES {
-        say::text(b"the log has more than ");
-        say::counted(MAX_LOG_BYTES, b"byte");
-        return;
+        let most = Count(MAX_LOG_BYTES, "byte");
+        return print!(rt; "the log has more than {most}");
     }
     if size % RECORD_BYTES != 0 {
-        say::text(b"the log ends inside a record");
-        return;
+        return print!(rt; "the log ends inside a record");
     }
-    say_claimed(claimed);
-    say::text(b" to ");
-    say::counted(size / RECORD_BYTES, b"record");
+    print_claimed(rt, claimed)?;
+    let records = Count(size / RECORD_BYTES, "record");
+    print!(rt; " to {records}")
 }
 
 // The end of the line for a pair that is not judged.
-fn refused(code: Code, input: &[u8], claimed: usize) -> Outcome {
-    say::text(b"refused, ");
-    names::code(code);
-    say::text(b": ");
-    say_why(input, claimed);
-    say::text(b"\n");
-    Outcome::Refused
+fn refused(rt: &impl Print, code: Code, input: &[u8], claimed: usize) -> io::Result<Outcome> {
+    print!(rt; "refused, {}: ", names::code(code))?;
+    print_why(rt, input, claimed)?;
+    println!(rt)?;
+    Ok(Outcome::Refused)
 }
 
 // The end of the line for a claim that is right. Behind its setup byte the input has whole records, so that the division leaves out that byte alone.
-fn accepted(input: &[u8]) -> Outcome {
-    say::text(b"accepted, ");
-    say::counted(input.len() / RECORD_BYTES, b"record");
-    say::text(b"\n");
-    Outcome::Accepted
+fn accepted(rt: &impl Print, input: &[u8]) -> io::Result<Outcome> {
+    let records = Count(input.len() / RECORD_BYTES, "record");
+    println!(rt; "accepted, {records}")?;
+    Ok(Outcome::Accepted)
 }
 
 // Judges an input and a claim to it.
-fn judged(input: &[u8], claim: &[u8]) -> Outcome {
+fn judged(rt: &impl Print, input: &[u8], claim: &[u8]) -> io::Result<Outcome> {
     match claims::check_input(input, claim) {
-        Verdict::Right => accepted(input),
-        Verdict::Differs(lowest) => differs(input, claim, lowest),
-        Verdict::Refused(code) => refused(code, input, claim.len()),
+        Verdict::Right => accepted(rt, input),
+        Verdict::Differs(lowest) => differs(rt, input, claim, lowest),
+        Verdict::Refused(code) => refused(rt, code, input, claim.len()),
     }
 }
 
 // Reads the answers to an input, and judges the two.
-fn with_input(input: &[u8], answers_name: &[u8]) -> Outcome {
+fn with_input(rt: &(impl Files + Print), input: &[u8], answers_name: &[u8]) -> io::Result<Outcome> {
     let mut claim = [0u8; CLAIM_ROOM];
-    match files::read(answers_name, &mut claim) {
-        Content::Bytes(size) => judged(input, front_of(&claim, size)),
-        Content::NotOpened(error) => not_there(b"the answers", b"opened", error),
-        Content::NotRead(error) => not_there(b"the answers", b"read", error),
+    match files::read(rt, answers_name, &mut claim) {
+        Content::Bytes(size) => judged(rt, input, front_of(&claim, size)),
+        Content::NotOpened(error) => not_there(rt, "the answers", "opened", &error),
+        Content::NotRead(error) => not_there(rt, "the answers", "read", &error),
     }
 }
 
 // The line of a pair of files.
-pub(crate) fn pair(log_name: &[u8], answers_name: &[u8]) -> Outcome {
-    say::text(log_name);
-    say::text(b" ");
-    say::text(answers_name);
-    say::text(b": ");
+pub(crate) fn pair(
+    rt: &(impl Files + Print),
+    log_name: &[u8],
+    answers_name: &[u8],
+) -> io::Result<Outcome> {
+    rt.write_all(log_name)?;
+    print!(rt; " ")?;
+    rt.write_all(answers_name)?;
+    print!(rt; ": ")?;
     let mut input = [0u8; INPUT_ROOM];
-    match files::read(log_name, &mut input) {
-        Content::Bytes(size) => with_input(front_of(&input, size), answers_name),
-        Content::NotOpened(error) => not_there(b"the log", b"opened", error),
-        Content::NotRead(error) => not_there(b"the log", b"read", error),
+    match files::read(rt, log_name, &mut input) {
+        Content::Bytes(size) => with_input(rt, front_of(&input, size), answers_name),
+        Content::NotOpened(error) => not_there(rt, "the log", "opened", &error),
+        Content::NotRead(error) => not_there(rt, "the log", "read", &error),
     }
 }

@@ -10,9 +10,13 @@ mod judge;
 mod names;
 mod say;
 
-ghost use Rattle.std.specs.Prelude.{◌+◌, ◌*◌, ◌^◌, ◌<◌, ◌≡◌};
+ghost use Rattle.std.specs.Prelude.{◌+◌, ◌*◌, ◌^◌, ◌<◌, ◌≡◌, IfOk};
 
 use judge::Outcome;
+use say::Count;
+use std::env::FillError;
+use std::io;
+use std::rt::{Env, Files};
 
 // The number of the first argument; the program's own name has the number 0.
 const FIRST: usize = 1;
@@ -21,7 +25,7 @@ const FIRST: usize = 1;
 const PAIR: usize = 2;
 
 // The longest name that a path can have, the 0 behind it left out.
-const MAX_NAME: usize = libc::PATH_MAX - 1;
+const MAX_NAME: usize = 4095;
 
 // How many pairs had each outcome.
 #[derive(Clone, Copy)]
@@ -52,60 +56,59 @@ fn counted(tally: Tally, outcome: Outcome) -> Tally
 }
 
 // The pair whose log is named by the argument of this number. There is such an argument; there may be none behind it.
-fn check_pair(number: usize) -> Outcome
+fn check_pair(rt: &(impl Env + Files + Print), number: usize) -> io::Result<Outcome>
     requires { number + 1 < 2 ^ 64 }
 {
     let mut log_name = [0u8; MAX_NAME];
-    let log_size = os::arg(number, &mut log_name);
-    if os::errno() != 0 {
-        return judge::too_long(number);
-    }
+    let Ok(log_size) = rt.arg(number, &mut log_name) else {
+        return judge::too_long(rt, number);
+    };
     let mut answers_name = [0u8; MAX_NAME];
-    let answers_size = os::arg(number + 1, &mut answers_name);
-    let error = os::errno();
-    if error == libc::ENAMETOOLONG {
-        return judge::too_long(number + 1);
+    match rt.arg(number + 1, &mut answers_name) {
+        Ok(size) => judge::pair(rt, &log_name[..log_size], &answers_name[..size]),
+        Err(FillError::TooLong) => judge::too_long(rt, number + 1),
+        Err(FillError::NotPresent) => judge::no_answers(rt, &log_name[..log_size]),
     }
-    if error != 0 {
-        return judge::no_answers(&log_name[..log_size]);
-    }
-    judge::pair(&log_name[..log_size], &answers_name[..answers_size])
 }
 
-// Every pair, in the order of the arguments.
-fn check_pairs(pairs: usize) -> Tally
+// Every pair, in the order of the arguments. A write that fails ends it.
+fn check_pairs(rt: &(impl Env + Files + Print), pairs: usize) -> io::Result<Tally>
     requires { pairs * 2 < 2 ^ 64 }
-    ensures { result.accepted + result.differs + result.refused ≡ pairs }
+    ensures { IfOk result (λ tally. tally.accepted + tally.differs + tally.refused ≡ pairs) }
 {
     let mut tally = Tally {
         accepted: 0,
         differs: 0,
         refused: 0,
     };
-    let mut pair = 0;
-    while pair < pairs {
-        let outcome = check_pair(pair * PAIR + FIRST);
+    for pair in 0..pairs {
+        let outcome = check_pair(rt, pair * PAIR + FIRST)?;
         tally = counted(tally, outcome);
-        pair += 1;
     }
-    tally
+    Ok(tally)
+}
+
+// How many arguments there are, the program's own name with them. None of them is copied.
+fn argument_count(env: &impl Env) -> usize {
+    for number in 0..usize::MAX {
+        if let Err(FillError::NotPresent) = env.arg(number, &mut []) {
+            return number;
+        }
+    }
+    usize::MAX
 }
 
 // The program's own name is counted with the arguments, so half of their number, rounded down, is how many pairs there are, the last of which may
 // have no answers.
-fn main() {
-    let pairs = os::arg_count() / PAIR;
+fn main(rt: HostRuntime) -> io::Result<()> {
+    let pairs = argument_count(&rt) / PAIR;
     if pairs == 0 {
-        say::text(b"usage: check_logs LOG ANSWERS ...\n");
-        return;
+        return println!(rt; "usage: check_logs LOG ANSWERS ...");
     }
-    let tally = check_pairs(pairs);
-    say::counted(pairs, b"pair");
-    say::text(b": ");
-    say::size(tally.accepted);
-    say::text(b" accepted, ");
-    say::size(tally.differs);
-    say::text(b" differs, ");
-    say::size(tally.refused);
-    say::text(b" refused\n");
+    let tally = check_pairs(&rt, pairs)?;
+    let all = Count(pairs, "pair");
+    println!(rt;
+        "{all}: {} accepted, {} differs, {} refused",
+        tally.accepted, tally.differs, tally.refused
+    )
 }

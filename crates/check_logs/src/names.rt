@@ -1,98 +1,101 @@
 // The names of codes, operations and errors, as the lines have them.
-use crate::say;
 use error::Code;
 use record::{CpuOperation, Operation, ThreadOperation};
+use std::io;
 
-// Writes the name of a code by its number, and says whether there is such a code.
-fn code_of_number(number: i32) -> bool {
-    match number {
-        error::OK => say::text(b"OK"),
-        error::EPERM => say::text(b"EPERM"),
-        error::ENOMEM => say::text(b"ENOMEM"),
-        error::EBUSY => say::text(b"EBUSY"),
-        error::EINVAL => say::text(b"EINVAL"),
-        error::EDEADLK => say::text(b"EDEADLK"),
-        error::EALREADY => say::text(b"EALREADY"),
-        error::EOVERFLOW => say::text(b"EOVERFLOW"),
-        _ => return false,
+// The numbers of the system's errors that have words: no such file, and not allowed.
+const ENOENT: i32 = 2;
+
+const EACCES: i32 = 13;
+
+// The name of a code.
+pub(crate) fn code(c: Code) -> &'static str {
+    match c {
+        Code::Ok => "OK",
+        Code::Eperm => "EPERM",
+        Code::Enomem => "ENOMEM",
+        Code::Ebusy => "EBUSY",
+        Code::Einval => "EINVAL",
+        Code::Edeadlk => "EDEADLK",
+        Code::Ealready => "EALREADY",
+        Code::Eoverflow => "EOVERFLOW",
     }
-    true
 }
 
-// A code by its name.
-pub(crate) fn code(c: Code) {
-    code_of_number(error::number(c));
+// The code with a number, or none.
+fn code_of_number(number: i32) -> Option<Code> {
+    match number {
+        error::OK => Some(Code::Ok),
+        error::EPERM => Some(Code::Eperm),
+        error::ENOMEM => Some(Code::Enomem),
+        error::EBUSY => Some(Code::Ebusy),
+        error::EINVAL => Some(Code::Einval),
+        error::EDEADLK => Some(Code::Edeadlk),
+        error::EALREADY => Some(Code::Ealready),
+        error::EOVERFLOW => Some(Code::Eoverflow),
+        _ => None,
+    }
 }
 
-// The code in four bytes of an answer by its name, or its number where no code has it.
-pub(crate) fn code_of_bits(bits: u32) {
-    if !code_of_number(high_first::signed(bits)) {
-        say::text(b"code ");
-        say::signed(bits);
+// Writes the code in four bytes of an answer by its name, or its number where no code has it.
+pub(crate) fn print_code(rt: &impl Print, bits: u32) -> io::Result<()> {
+    let number = high_first::signed(bits);
+    match code_of_number(number) {
+        Some(c) => print!(rt; "{}", code(c)),
+        None => print!(rt; "code {number}"),
     }
 }
 
 // What is asked of a CPU.
-fn cpu_operation(o: CpuOperation) {
+fn cpu_operation(o: CpuOperation) -> &'static str {
     match o {
-        CpuOperation::Up => say::text(b"up"),
-        CpuOperation::Down => say::text(b"down"),
-        CpuOperation::Put => say::text(b"put"),
-        CpuOperation::Take => say::text(b"take"),
+        CpuOperation::Up => "up",
+        CpuOperation::Down => "down",
+        CpuOperation::Put => "put",
+        CpuOperation::Take => "take",
     }
 }
 
 // What is asked of a lock.
-fn lock_operation(o: spinlock::Operation) {
+fn lock_operation(o: spinlock::Operation) -> &'static str {
     match o {
-        spinlock::Operation::Acquire { nested } => {
-            if nested {
-                say::text(b"nested ");
-            }
-            say::text(b"acquire");
-        }
-        spinlock::Operation::Release => say::text(b"release"),
+        spinlock::Operation::Acquire { nested: true } => "nested acquire",
+        spinlock::Operation::Acquire { nested: false } => "acquire",
+        spinlock::Operation::Release => "release",
     }
 }
 
 // What is asked of a thread.
-fn thread_operation(o: ThreadOperation) {
+fn thread_operation(o: ThreadOperation) -> &'static str {
     match o {
         ThreadOperation::Mask {
             enable: _,
             disable: _,
-        } => say::text(b"mask"),
-        ThreadOperation::Pin => say::text(b"pin"),
-        ThreadOperation::Priority(_) => say::text(b"priority"),
+        } => "mask",
+        ThreadOperation::Pin => "pin",
+        ThreadOperation::Priority(_) => "priority",
     }
 }
 
 // What a record asks for, by name.
-pub(crate) fn operation(o: Operation) {
+pub(crate) fn operation(o: Operation) -> &'static str {
     match o {
-        Operation::Malformed => say::text(b"malformed"),
+        Operation::Malformed => "malformed",
         Operation::OnCpu(on_cpu) => cpu_operation(on_cpu),
         Operation::OnLock(on_lock) => lock_operation(on_lock),
         Operation::OnThread(on_thread) => thread_operation(on_thread),
-        Operation::Ipi => say::text(b"ipi"),
-        Operation::Owner => say::text(b"owner"),
-        Operation::Unwind => say::text(b"unwind"),
+        Operation::Ipi => "ipi",
+        Operation::Owner => "owner",
+        Operation::Unwind => "unwind",
     }
 }
 
-// The number of an error, as it is written; there is none below 0.
-fn unsigned(number: i32) -> u64 {
-    if number < 0 { 0 } else { number as u64 }
-}
-
-// Why a file could not be opened or read, by the number of the error.
-pub(crate) fn error(number: i32) {
-    match number {
-        libc::ENOENT => say::text(b"no such file"),
-        libc::EACCES => say::text(b"not allowed"),
-        _ => {
-            say::text(b"error ");
-            say::decimal(unsigned(number));
-        }
+// Writes why a file could not be opened or read: by the number that the system gave, or else what the error says of itself.
+pub(crate) fn print_error(rt: &impl Print, error: &io::Error) -> io::Result<()> {
+    match error.raw_os_error() {
+        Some(ENOENT) => print!(rt; "no such file"),
+        Some(EACCES) => print!(rt; "not allowed"),
+        Some(number) => print!(rt; "error {number}"),
+        None => print!(rt; "{error}"),
     }
 }

@@ -10,9 +10,10 @@
 use answers::ANSWER_BYTES;
 use error::Code;
 use feed::Form;
-use libc::{STDIN_FILENO, STDOUT_FILENO};
 use log_tests::MAX_LOG_BYTES;
 use program::MAX_ANSWER_BYTES;
+use std::io;
+use std::io::{Read, Write};
 
 // The most reads. A proved loop has to end, and nothing says that an input does; no run makes so many.
 const MAX_READS: u64 = 0xffff_ffff_ffff_ffff;
@@ -25,97 +26,90 @@ struct Turn {
     more: bool,
 }
 
-// Writes the first bytes of a buffer, and says whether they were written.
-fn show(out: &[u8], size: usize) -> bool {
+// Writes the first bytes of a buffer.
+fn show<W: Write>(output: &mut W, out: &[u8], size: usize) -> io::Result<()> {
     if size <= out.len() {
-        return io::write_all(STDOUT_FILENO, &out[..size]);
+        output.write_all(&out[..size])?;
     }
-    false
+    Ok(())
 }
 
 // Writes one answer, for an input that is refused.
-fn refuse(code: Code) {
+fn refuse<W: Write>(output: &mut W, code: Code) -> io::Result<()> {
     let mut out = [0u8; ANSWER_BYTES];
     answers::put_answer(&mut out, code, 0);
-    io::write_all(STDOUT_FILENO, &out);
+    output.write_all(&out)
 }
 
 // Feeds a fragment, and writes its answers. At most eleven bytes were pending, so it completes no more records than the longest log has.
-fn answer(f: Form, fragment: &[u8]) -> Turn {
+fn answer<W: Write>(output: &mut W, f: Form, fragment: &[u8]) -> io::Result<Turn> {
     let mut out = [0u8; MAX_ANSWER_BYTES];
     let fed = feed::feed(f, fragment, &mut out);
-    let more = show(&out, fed.records as usize * ANSWER_BYTES);
+    show(output, &out, fed.records as usize * ANSWER_BYTES)?;
     let code = fed.code;
     let form = fed.form;
-    if error::is_ok(code) {
-        return Turn { code, form, more };
-    }
-    Turn {
+    Ok(Turn {
         code,
         form,
-        more: false,
-    }
+        more: error::is_ok(code),
+    })
 }
 
 // One read: what is there is fed, and where the input ends the form is finished.
-fn follow_some(f: Form) -> Turn {
+fn follow_some<R: Read, W: Write>(input: &mut R, output: &mut W, f: Form) -> io::Result<Turn> {
     let mut fragment = [0u8; MAX_LOG_BYTES];
-    let got = libc::read(STDIN_FILENO, &mut fragment);
-    if got <= 0 {
+    let size = input.read(&mut fragment).unwrap_or(0);
+    if size == 0 {
         let end = feed::finish(f);
         let code = end.code;
         let form = end.form;
-        return Turn {
+        return Ok(Turn {
             code,
             form,
             more: false,
-        };
+        });
     }
-    let n = io::count(got, &fragment);
-    answer(f, &fragment[..n])
+    answer(output, f, &fragment[..size])
 }
 
 // Every read of a log, and the code at its end.
-fn follow_log(form: Form) -> Code {
+fn follow_log<R: Read, W: Write>(input: &mut R, output: &mut W, form: Form) -> io::Result<Code> {
     let mut turn = Turn {
         code: Code::Ok,
         form,
         more: true,
     };
-    let mut reads = 0;
-    while reads < MAX_READS && turn.more {
-        let f = turn.form;
-        turn = follow_some(f);
-        reads += 1;
+    for _ in 0..MAX_READS {
+        if !turn.more {
+            break;
+        }
+        turn = follow_some(input, output, turn.form)?;
     }
-    let code = turn.code;
-    code
+    Ok(turn.code)
 }
 
 // The setup byte, and the log behind it.
-fn follow_input() -> Code {
+fn follow_input<R: Read, W: Write>(input: &mut R, output: &mut W) -> io::Result<Code> {
     let mut setup = [0u8; 1];
-    if libc::read(STDIN_FILENO, &mut setup) != 1 {
-        return Code::Einval;
+    if input.read(&mut setup).unwrap_or(0) != 1 {
+        return Ok(Code::Einval);
     }
     let made = machine::from_setup_byte(setup[0]);
-    let refused = made.code;
-    if !error::is_ok(refused) {
-        return refused;
+    if !error::is_ok(made.code) {
+        return Ok(made.code);
     }
-    let machine = made.machine;
-    let started = feed::start(machine);
-    let code = started.code;
-    if !error::is_ok(code) {
-        return code;
+    let started = feed::start(made.machine);
+    if !error::is_ok(started.code) {
+        return Ok(started.code);
     }
-    let form = started.form;
-    follow_log(form)
+    follow_log(input, output, started.form)
 }
 
-fn main() {
-    let code = follow_input();
+fn main(rt: HostRuntime) -> io::Result<()> {
+    let mut output = rt.stdout();
+    let code = follow_input(&mut rt.stdin(), &mut output)?;
     if !error::is_ok(code) {
-        refuse(code);
+        refuse(&mut output, code)?;
     }
+    Ok(())
 }
