@@ -65,9 +65,9 @@ fn put_answer_at(out: &mut [u8], k: usize, answer: Answered)
 // Every record of a log on a machine that has been found well-formed, with room for every answer. The answer that comes back is the last
 // record's; with no record it is that of a record that fails the form test.
 fn run_records(mut m: Machine, log: &[u8], out: &mut [u8]) -> Stepped
-    requires setup_value { setup_ok m.setup ≡ true }
-    requires log_len_bound { length log.now ≤ 24576 }
-    requires log_in_bounds { length log.now / 12 * 8 ≤ length out.old }
+    requires good_setup { setup_ok m.setup ≡ true }
+    requires short_log { length log.now ≤ 24576 }
+    requires room_fits { length log.now / 12 * 8 ≤ length out.old }
     ensures answer { answered_says result.answer ≡ last_answer m log.now (length log.now / 12) }
     ensures machine { result.machine ≡ state_at m log.now (length log.now / 12) }
     ensures room { out.new ≡ room_at m log.now out.old (length log.now / 12) }

@@ -9,102 +9,84 @@ use Rattle.runner.proofs.run_joined.Goals as goal
 pub returns-then-not-is_ok-clause-machine : goal.returns-then-not-is_ok-clause-machine
 returns-then-not-is_ok-clause-machine c =
     let a = c.args in
-    let told = joined_refused a.m a.first a.others.now a.out.now (omega arith) c.well-formed-2.ensures c.run_code-code.ensures
+    let told = joined_refused a.m a.first a.others.now a.out.now (omega arith) c.well_formed-2.ensures c.run_code-code.ensures
     (sym c.is_ok.ensures ∙ c.if-not-is_ok.true) in told.0
 
 pub returns-then-not-is_ok-clause-room : goal.returns-then-not-is_ok-clause-room
 returns-then-not-is_ok-clause-room c =
     let a = c.args in
-    let told = joined_refused a.m a.first a.others.now a.out.now (omega arith) c.well-formed-2.ensures c.run_code-code.ensures
+    let told = joined_refused a.m a.first a.others.now a.out.now (omega arith) c.well_formed-2.ensures c.run_code-code.ensures
     (sym c.is_ok.ensures ∙ c.if-not-is_ok.true) in told.1
--- FLAGS coded.before.well-formed-2.ensures
 
-pub run_records-begun-requires-clause-setup_value : goal.run_records-begun-requires-clause-setup_value
-run_records-begun-requires-clause-setup_value c =
+pub run_records-begun-requires-clause-good_setup : goal.run_records-begun-requires-clause-good_setup
+run_records-begun-requires-clause-good_setup c =
     let a = c.args in
     let fine = sym c.is_ok.ensures ∙ c.if-not-is_ok.false in
-    let k = joined_passed a.m a.first a.others.now a.out.now (omega arith) c.well-formed-2.ensures
+    let k = joined_passed a.m a.first a.others.now a.out.now (omega arith) c.well_formed-2.ensures
     c.run_code-code.ensures fine in
-    let told = (k.setup, (search rules, omega (arith, k.first_fits))) in told.0
+    k.setup
 
-pub run_records-begun-requires-clause-log_in_bounds : goal.run_records-begun-requires-clause-log_in_bounds
-run_records-begun-requires-clause-log_in_bounds c =
+pub run_records-begun-requires-clause-room_fits : goal.run_records-begun-requires-clause-room_fits
+run_records-begun-requires-clause-room_fits c =
     let a = c.args in
     let fine = sym c.is_ok.ensures ∙ c.if-not-is_ok.false in
-    let k = joined_passed a.m a.first a.others.now a.out.now (omega arith) c.well-formed-2.ensures
+    let k = joined_passed a.m a.first a.others.now a.out.now (omega arith) c.well_formed-2.ensures
     c.run_code-code.ensures fine in
-    let told = (k.setup, (search rules, omega (arith, k.first_fits))) in told.2
--- FLAGS coded.before.well-formed-2.ensures
+    omega (arith, k.first_fits)
 
 pub slice_bounds-run_records-count : goal.slice_bounds-run_records-count
 slice_bounds-run_records-count c =
     let a = c.args in
     let fine = sym c.is_ok.ensures ∙ c.if-not-is_ok.false in
-    let k = joined_passed a.m a.first a.others.now a.out.now (omega arith) c.well-formed-2.ensures
+    let k = joined_passed a.m a.first a.others.now a.out.now (omega arith) c.well_formed-2.ensures
     c.run_code-code.ensures fine in
     omega (arith, k.first_fits)
--- FLAGS coded.before.well-formed-2.ensures
 
-pub run_records-last-requires-clause-setup_value : goal.run_records-last-requires-clause-setup_value
-run_records-last-requires-clause-setup_value c =
+pub run_records-last-requires-clause-good_setup : goal.run_records-last-requires-clause-good_setup
+run_records-last-requires-clause-good_setup c =
     let a = c.args in
     let fine = sym c.is_ok.ensures ∙ c.if-not-is_ok.false in
-    let begun = (c.run_records-begun.ensures.answer, c.run_records-begun.ensures.machine, c.run_records-begun.ensures.room) in
-    let k = joined_passed a.m a.first a.others.now a.out.now (omega arith) c.well-formed-2.ensures
+    let k = joined_passed a.m a.first a.others.now a.out.now (omega arith) c.well_formed-2.ensures
     c.run_code-code.ensures fine in
-    let told = (
-      others_setup a.m a.first a.others.now a.out.now (omega arith) c.well-formed-2.ensures
-          c.run_code-code.ensures fine begun.1.0,
-      (k.short, omega (arith, k.others_fit)),
-    ) in told.0
+    others_setup a.m a.first a.others.now a.out.now (omega arith) c.well_formed-2.ensures
+          c.run_code-code.ensures fine c.run_records-begun.ensures.machine
 
-pub run_records-last-requires-clause-log_len_bound : goal.run_records-last-requires-clause-log_len_bound
-run_records-last-requires-clause-log_len_bound c =
+pub run_records-last-requires-clause-short_log : goal.run_records-last-requires-clause-short_log
+run_records-last-requires-clause-short_log c =
     let a = c.args in
     let fine = sym c.is_ok.ensures ∙ c.if-not-is_ok.false in
-    let begun = (c.run_records-begun.ensures.answer, c.run_records-begun.ensures.machine, c.run_records-begun.ensures.room) in
-    let k = joined_passed a.m a.first a.others.now a.out.now (omega arith) c.well-formed-2.ensures
+    let k = joined_passed a.m a.first a.others.now a.out.now (omega arith) c.well_formed-2.ensures
     c.run_code-code.ensures fine in
-    let told = (
-      others_setup a.m a.first a.others.now a.out.now (omega arith) c.well-formed-2.ensures
-          c.run_code-code.ensures fine begun.1.0,
-      (k.short, omega (arith, k.others_fit)),
-    ) in told.1
+    k.short
 
-pub run_records-last-requires-clause-log_in_bounds : goal.run_records-last-requires-clause-log_in_bounds
-run_records-last-requires-clause-log_in_bounds c =
+pub run_records-last-requires-clause-room_fits : goal.run_records-last-requires-clause-room_fits
+run_records-last-requires-clause-room_fits c =
     let a = c.args in
     let fine = sym c.is_ok.ensures ∙ c.if-not-is_ok.false in
-    let begun = (c.run_records-begun.ensures.answer, c.run_records-begun.ensures.machine, c.run_records-begun.ensures.room) in
-    let k = joined_passed a.m a.first a.others.now a.out.now (omega arith) c.well-formed-2.ensures
+    let k = joined_passed a.m a.first a.others.now a.out.now (omega arith) c.well_formed-2.ensures
     c.run_code-code.ensures fine in
-    let told = (
-      others_setup a.m a.first a.others.now a.out.now (omega arith) c.well-formed-2.ensures
-          c.run_code-code.ensures fine begun.1.0,
-      (k.short, omega (arith, k.others_fit)),
-    ) in told.2
--- FLAGS coded.before.well-formed-2.ensures coded.before.well-formed-2.ensures
+    omega (arith, k.others_fit)
 
 pub returns-clause-machine : goal.returns-clause-machine
 returns-clause-machine c =
     let a = c.args in
     let fine = sym c.is_ok.ensures ∙ c.if-not-is_ok.false in
-    let begun = (c.run_records-begun.ensures.answer, c.run_records-begun.ensures.machine, c.run_records-begun.ensures.room) in
-    let last = (c.run_records-last.ensures.answer, c.run_records-last.ensures.machine, c.run_records-last.ensures.room) in
     let told = joined_whole a.m a.first a.others.now a.out.now
-    (omega (arith, c.well-formed.1.0)) c.well-formed-2.ensures c.run_code-code.ensures fine
-    _ _ begun.1.0 begun.1.1 last.1.0 last.1.1 in told.0
+    (omega (arith, c.well_formed.1.0)) c.well_formed-2.ensures c.run_code-code.ensures fine
+    _ _ c.run_records-begun.ensures.machine c.run_records-begun.ensures.room c.run_records-last.ensures.machine c.run_records-last.ensures.room in told.0
 
 pub returns-clause-room : goal.returns-clause-room
 returns-clause-room c =
     let a = c.args in
     let fine = sym c.is_ok.ensures ∙ c.if-not-is_ok.false in
-    let begun = (c.run_records-begun.ensures.answer, c.run_records-begun.ensures.machine, c.run_records-begun.ensures.room) in
-    let last = (c.run_records-last.ensures.answer, c.run_records-last.ensures.machine, c.run_records-last.ensures.room) in
     let told = joined_whole a.m a.first a.others.now a.out.now
-    (omega (arith, c.well-formed.1.0)) c.well-formed-2.ensures c.run_code-code.ensures fine
-    _ _ begun.1.0 begun.1.1 last.1.0 last.1.1 in told.1
--- FLAGS coded.before.before.before.before.well-formed.1.0 coded.before.well-formed-2.ensures
+    (omega (arith, c.well_formed.1.0)) c.well_formed-2.ensures c.run_code-code.ensures fine
+    _ _ c.run_records-begun.ensures.machine c.run_records-begun.ensures.room c.run_records-last.ensures.machine c.run_records-last.ensures.room in told.1
 
 pub slice_bounds-run_records-start : goal.slice_bounds-run_records-start
-slice_bounds-run_records-start c = ?
+slice_bounds-run_records-start c =
+    let a = c.args in
+    let fine = sym c.is_ok.ensures ∙ c.if-not-is_ok.false in
+    let k = joined_passed a.m a.first a.others.now a.out.now (omega arith) c.well_formed-2.ensures
+    c.run_code-code.ensures fine in
+    omega (arith, k.first_fits)
