@@ -2,6 +2,7 @@
 use answers::ANSWER_BYTES;
 use claims::Verdict;
 use record::RECORD_BYTES;
+use std::io;
 
 // The log of a case may be too long by one record.
 const MOST_INPUT_BYTES: usize = program::MAX_INPUT_BYTES + RECORD_BYTES;
@@ -40,7 +41,7 @@ fn behind(text: &[u8]) -> &[u8] {
 
 // Whether a text is the sign for no bytes.
 fn is_nothing(text: &[u8]) -> bool {
-    check::same(text, b"-")
+    text == b"-".as_slice()
 }
 
 // Whether a text is made of pairs of digits, at least one and at most so many.
@@ -83,22 +84,20 @@ fn refused(number: &[u8]) -> Stored {
         return Stored::Malformed;
     }
     match number_of(crate::rest_of(number, 1)) {
-        Decimal::Number(size) => Stored::Refused(high_first::signed(std::num::wrapping_sub_u32(
-            0, size,
-        ))),
+        Decimal::Number(size) => Stored::Refused(high_first::signed(0u32.wrapping_sub(size))),
         Decimal::Malformed => Stored::Malformed,
     }
 }
 
 // What the words of a verdict say.
 fn stored_verdict(text: &[u8]) -> Stored {
-    if check::same(text, b"accepted") {
+    if text == b"accepted".as_slice() {
         return Stored::Accepted;
     }
-    if check::same(word(text), b"differs") {
+    if word(text) == b"differs".as_slice() {
         return differs(behind(text));
     }
-    if check::same(word(text), b"refused") {
+    if word(text) == b"refused".as_slice() {
         return refused(behind(text));
     }
     Stored::Malformed
@@ -164,16 +163,25 @@ fn unhex_input(setup: &[u8], log: &[u8], room: &mut [u8]) -> usize {
 }
 
 // Judges a claim, and compares.
-fn compare(setup: &[u8], log: &[u8], claim: &[u8], stored: Stored) {
+fn compare(
+    rt: &impl Print,
+    setup: &[u8],
+    log: &[u8],
+    claim: &[u8],
+    stored: Stored,
+) -> io::Result<()> {
     let mut input = [0u8; MOST_INPUT_BYTES];
     let n = unhex_input(setup, log, &mut input);
     let mut claimed = [0u8; MOST_CLAIM_BYTES];
     let k = crate::unhex(claim, &mut claimed);
-    crate::verdict(as_expected(
-        crate::front_of(&input, n),
-        crate::front_of(&claimed, k),
-        stored,
-    ));
+    crate::verdict(
+        rt,
+        as_expected(
+            crate::front_of(&input, n),
+            crate::front_of(&claimed, k),
+            stored,
+        ),
+    )
 }
 
 // Whether the parts of a line are those of a case.
@@ -185,8 +193,8 @@ fn is_case(setup: &[u8], log: &[u8], claim: &[u8], stored: Stored) -> bool {
 }
 
 // One line: a name, the setup byte, the log, the claimed answers and the verdict on them.
-pub(crate) fn case(line: &[u8]) {
-    crate::put(word(line));
+pub(crate) fn case(rt: &impl Print, line: &[u8]) -> io::Result<()> {
+    crate::put(rt, word(line))?;
     let from_setup = behind(line);
     let from_log = behind(from_setup);
     let from_claim = behind(from_log);
@@ -195,8 +203,8 @@ pub(crate) fn case(line: &[u8]) {
     let claim = word(from_claim);
     let stored = stored_verdict(behind(from_claim));
     if is_case(setup, log, claim, stored) {
-        compare(setup, log, claim, stored);
+        compare(rt, setup, log, claim, stored)
     } else {
-        crate::put(b": not a case\n");
+        println!(rt; ": not a case")
     }
 }

@@ -8,7 +8,9 @@ mod pieces;
 
 ghost use Rattle.std.specs.Prelude.{◌+◌, ◌*◌, ◌<◌, ◌≤◌, length};
 
-use libc::STDOUT_FILENO;
+use std::fs;
+use std::io::{self, Write};
+use std::rt::Files;
 
 // What the lines of a file are: inputs of the program, calls, or claims with the verdict on them.
 #[derive(Clone, Copy)]
@@ -18,8 +20,8 @@ enum Lines {
     Checks,
 }
 
-fn put(text: &[u8]) {
-    io::write_all(STDOUT_FILENO, text);
+fn put(rt: &impl Print, text: &[u8]) -> io::Result<()> {
+    io::writer(rt).write_all(text)
 }
 
 // The first place from `from` on that has the byte, or the end.
@@ -82,11 +84,11 @@ fn unhex(text: &[u8], room: &mut [u8]) -> usize {
     }
 }
 
-fn verdict(same: bool) {
+fn verdict(rt: &impl Print, same: bool) -> io::Result<()> {
     if same {
-        put(b": as expected\n");
+        println!(rt; ": as expected")
     } else {
-        put(b": DIFFERS\n");
+        println!(rt; ": DIFFERS")
     }
 }
 
@@ -95,7 +97,7 @@ fn agree(out: &[u8], size: usize, expected: &[u8], k: usize) -> bool {
     if size == k {
         if k <= out.len() {
             if k <= expected.len() {
-                return check::same(&out[..k], &expected[..k]);
+                return out[..k] == expected[..k];
             }
         }
     }
@@ -103,14 +105,13 @@ fn agree(out: &[u8], size: usize, expected: &[u8], k: usize) -> bool {
 }
 
 // Answers an input, and compares with what is expected.
-fn compare(input: &[u8], n: usize, expected: &[u8], k: usize) {
+fn compare(rt: &impl Print, input: &[u8], n: usize, expected: &[u8], k: usize) -> io::Result<()> {
     let mut out = [0u8; 16384];
     if n <= input.len() {
         let response = program::respond(&input[..n], &mut out);
-        verdict(agree(&out, response.size, expected, k));
-        return;
+        return verdict(rt, agree(&out, response.size, expected, k));
     }
-    verdict(false);
+    verdict(rt, false)
 }
 
 // The byte at a place, or 0.
@@ -175,48 +176,62 @@ fn called(input: &[u8], room: &mut [u8]) -> i32 {
 }
 
 // Makes a call, and compares its code and the whole room with what is expected.
-fn compare_call(input: &[u8], expected: &[u8], room: &mut [u8]) {
+fn compare_call(rt: &impl Print, input: &[u8], expected: &[u8], room: &mut [u8]) -> io::Result<()> {
     let len = byte_at(input, 1) as usize;
     if len > room.len() {
-        verdict(false);
-        return;
+        return verdict(rt, false);
     }
     let code = called(input, &mut room[..len]);
     if code == high_first::signed(word_at(expected, 0)) {
-        verdict(check::same(room, rest_of(expected, 4)));
+        verdict(rt, *room == *rest_of(expected, 4))
     } else {
-        verdict(false);
+        verdict(rt, false)
     }
 }
 
 // Answers an input of the program or makes a call, and compares.
-fn judge(calls: bool, input: &[u8], n: usize, expected: &[u8], k: usize) {
+fn judge(
+    rt: &impl Print,
+    calls: bool,
+    input: &[u8],
+    n: usize,
+    expected: &[u8],
+    k: usize,
+) -> io::Result<()> {
     if calls {
         if n <= input.len() {
             if k <= expected.len() {
                 let mut room = [0x55u8; 12];
-                compare_call(&input[..n], &expected[..k], &mut room);
-                return;
+                return compare_call(rt, &input[..n], &expected[..k], &mut room);
             }
         }
-        verdict(false);
-        return;
+        return verdict(rt, false);
     }
-    compare(input, n, expected, k);
+    compare(rt, input, n, expected, k)
 }
 
 // The log of an input once more, in pieces.
-fn in_pieces(name: &[u8], input: &[u8], n: usize, expected: &[u8], k: usize) {
-    put(name);
-    put(b" in pieces");
-    verdict(pieces::as_expected(front_of(input, n), front_of(expected, k)));
+fn in_pieces(
+    rt: &impl Print,
+    name: &[u8],
+    input: &[u8],
+    n: usize,
+    expected: &[u8],
+    k: usize,
+) -> io::Result<()> {
+    put(rt, name)?;
+    print!(rt; " in pieces")?;
+    verdict(
+        rt,
+        pieces::as_expected(front_of(input, n), front_of(expected, k)),
+    )
 }
 
 // One line: a name, an input and its answers.
-fn answered(line: &[u8], calls: bool) {
+fn answered(rt: &impl Print, line: &[u8], calls: bool) -> io::Result<()> {
     let a = find(line, 0, b' ');
     let name = front_of(line, a);
-    put(name);
+    put(rt, name)?;
     if a < line.len() {
         let rest = a + 1;
         let b = find(line, rest, b' ');
@@ -226,50 +241,46 @@ fn answered(line: &[u8], calls: bool) {
             let last = b + 1;
             let mut expected = [0u8; 16384];
             let k = unhex(&line[last..], &mut expected);
-            judge(calls, &input, n, &expected, k);
+            judge(rt, calls, &input, n, &expected, k)?;
             if !calls {
-                in_pieces(name, &input, n, &expected, k);
+                in_pieces(rt, name, &input, n, &expected, k)?;
             }
-            return;
+            return Ok(());
         }
     }
-    put(b": not a case\n");
+    println!(rt; ": not a case")
 }
 
 // One line of a file.
-fn case(line: &[u8], lines: Lines) {
+fn case(rt: &impl Print, line: &[u8], lines: Lines) -> io::Result<()> {
     match lines {
-        Lines::Logs => answered(line, false),
-        Lines::Calls => answered(line, true),
-        Lines::Checks => checks::case(line),
+        Lines::Logs => answered(rt, line, false),
+        Lines::Calls => answered(rt, line, true),
+        Lines::Checks => checks::case(rt, line),
     }
 }
 
-fn cases(text: &[u8], lines: Lines) {
+fn cases(rt: &impl Print, text: &[u8], lines: Lines) -> io::Result<()> {
     let mut at = 0;
     while at < text.len() {
         let end = find(text, at, b'\n');
-        case(&text[at..end], lines);
+        case(rt, &text[at..end], lines)?;
         at = end + 1;
     }
+    Ok(())
 }
 
-// Every line of a stored file.
-fn replay(path: &[u8], lines: Lines) {
-    let file = os::open_read(path);
-    if file < 0 {
-        os::fail(path);
-        return;
+// Every line of a stored file. One that can't be read is named on standard error, and the others are replayed.
+fn replay(rt: &(impl Files + Print + Eprint + Alloc), path: &str, lines: Lines) -> io::Result<()> {
+    match fs::read(rt, path) {
+        Ok(text) => cases(rt, &text, lines),
+        Err(error) => eprintln!(rt; "{path}: {error}"),
     }
-    let mut text = [0u8; 300000];
-    let n = io::read_full(file, &mut text);
-    libc::close(file);
-    cases(&text[..n], lines);
 }
 
-fn main() {
-    replay(b"logs-after-06.txt", Lines::Logs);
-    replay(b"calls-01.txt", Lines::Calls);
-    replay(b"checks-08.txt", Lines::Checks);
-    replay(b"checks-own.txt", Lines::Checks);
+fn main(rt: HostRuntime) -> io::Result<()> {
+    replay(&rt, "logs-after-06.txt", Lines::Logs)?;
+    replay(&rt, "calls-01.txt", Lines::Calls)?;
+    replay(&rt, "checks-08.txt", Lines::Checks)?;
+    replay(&rt, "checks-own.txt", Lines::Checks)
 }

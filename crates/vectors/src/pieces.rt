@@ -188,7 +188,7 @@ fn every_way(m: Machine, log: &[u8], expected: &[u8], code: i32) -> bool {
 fn refused(code: Code, expected: &[u8]) -> bool {
     let mut out = [0u8; ANSWER_BYTES];
     answers::put_answer(&mut out, code, 0);
-    check::same(&out, expected)
+    out.as_slice() == expected
 }
 
 // A log that ends inside a record: its whole records have the answers that they have as a log of their own, and the end is EINVAL. A log that is too
