@@ -12,6 +12,9 @@ use std::fs;
 use std::io::{self, Write};
 use std::rt::Files;
 
+// The room for an input ends one byte behind the longest one.
+const INPUT_ROOM_BYTES: usize = program::MAX_INPUT_BYTES + 1;
+
 // What the lines of a file are: inputs of the program, calls, or claims with the verdict on them.
 #[derive(Clone, Copy)]
 enum Lines {
@@ -29,32 +32,26 @@ fn find(s: &[u8], from: usize, byte: u8) -> usize
     requires { from ≤ length s.now }
     ensures { (from ≤ result) × (result ≤ length s.now) }
 {
-    let mut i = from;
-    while i < s.len() {
+    for i in from..s.len() {
         if s[i] == byte {
             return i;
         }
-        i += 1;
     }
-    i
+    s.len()
 }
 
 // A hexadecimal digit; anything else counts as 0.
 fn digit(glyph: u8) -> u8
     ensures { result < 16 }
 {
-    if glyph < 48 {
-        return 0;
+    match glyph {
+        b'0'..=b'9' => glyph - b'0',
+        b'A'..=b'F' => glyph - b'A' + 10,
+        _ => 0,
     }
-    if glyph < 58 {
-        return glyph - 48;
-    }
-    if glyph < 65 {
-        return 0;
-    }
-    if glyph < 71 { glyph - 55 } else { 0 }
 }
 
+// The byte that two digits spell.
 fn pair(text: &[u8], i: usize) -> u8
     requires { i * 2 + 2 ≤ length text.now }
 {
@@ -72,16 +69,10 @@ fn place(room: &mut [u8], i: usize, byte: u8) {
 // Decodes hexadecimal text into the room, as far as it reaches, and says how many bytes that is.
 fn unhex(text: &[u8], room: &mut [u8]) -> usize {
     let count = text.len() / 2;
-    let mut i = 0;
-    while i < count {
+    for i in 0..count {
         place(room, i, pair(text, i));
-        i += 1;
     }
-    if count <= room.len() {
-        count
-    } else {
-        room.len()
-    }
+    count.min(room.len())
 }
 
 fn verdict(rt: &impl Print, same: bool) -> io::Result<()> {
@@ -93,25 +84,15 @@ fn verdict(rt: &impl Print, same: bool) -> io::Result<()> {
 }
 
 // Whether the first bytes are those that are expected, and as many.
-fn agree(out: &[u8], size: usize, expected: &[u8], k: usize) -> bool {
-    if size == k {
-        if k <= out.len() {
-            if k <= expected.len() {
-                return out[..k] == expected[..k];
-            }
-        }
-    }
-    false
+fn agree(out: &[u8], size: usize, expected: &[u8]) -> bool {
+    size == expected.len() && size <= out.len() && &out[..size] == expected
 }
 
 // Answers an input, and compares with what is expected.
-fn compare(rt: &impl Print, input: &[u8], n: usize, expected: &[u8], k: usize) -> io::Result<()> {
-    let mut out = [0u8; 16384];
-    if n <= input.len() {
-        let response = program::respond(&input[..n], &mut out);
-        return verdict(rt, agree(&out, response.size, expected, k));
-    }
-    verdict(rt, false)
+fn compare(rt: &impl Print, input: &[u8], expected: &[u8]) -> io::Result<()> {
+    let mut out = [0u8; program::MAX_ANSWER_BYTES];
+    let response = program::respond(input, &mut out);
+    verdict(rt, agree(&out, response.size, expected))
 }
 
 // The byte at a place, or 0.
@@ -176,79 +157,62 @@ fn called(input: &[u8], room: &mut [u8]) -> i32 {
 }
 
 // Makes a call, and compares its code and the whole room with what is expected.
-fn compare_call(rt: &impl Print, input: &[u8], expected: &[u8], room: &mut [u8]) -> io::Result<()> {
+fn compare_call(rt: &impl Print, input: &[u8], expected: &[u8]) -> io::Result<()> {
+    let mut room = [0x55u8; 12];
     let len = byte_at(input, 1) as usize;
     if len > room.len() {
         return verdict(rt, false);
     }
     let code = called(input, &mut room[..len]);
-    if code == high_first::signed(word_at(expected, 0)) {
-        verdict(rt, *room == *rest_of(expected, 4))
-    } else {
-        verdict(rt, false)
-    }
+    let same = code == high_first::signed(word_at(expected, 0));
+    verdict(rt, same && room.as_slice() == rest_of(expected, 4))
 }
 
 // Answers an input of the program or makes a call, and compares.
-fn judge(
-    rt: &impl Print,
-    calls: bool,
-    input: &[u8],
-    n: usize,
-    expected: &[u8],
-    k: usize,
-) -> io::Result<()> {
+fn judge(rt: &impl Print, calls: bool, input: &[u8], expected: &[u8]) -> io::Result<()> {
     if calls {
-        if n <= input.len() {
-            if k <= expected.len() {
-                let mut room = [0x55u8; 12];
-                return compare_call(rt, &input[..n], &expected[..k], &mut room);
-            }
-        }
-        return verdict(rt, false);
+        compare_call(rt, input, expected)
+    } else {
+        compare(rt, input, expected)
     }
-    compare(rt, input, n, expected, k)
 }
 
 // The log of an input once more, in pieces.
-fn in_pieces(
-    rt: &impl Print,
-    name: &[u8],
-    input: &[u8],
-    n: usize,
-    expected: &[u8],
-    k: usize,
-) -> io::Result<()> {
+fn in_pieces(rt: &impl Print, name: &[u8], input: &[u8], expected: &[u8]) -> io::Result<()> {
     put(rt, name)?;
     print!(rt; " in pieces")?;
-    verdict(
-        rt,
-        pieces::as_expected(front_of(input, n), front_of(expected, k)),
-    )
+    verdict(rt, pieces::as_expected(input, expected))
+}
+
+// What is said of a line that can't be read.
+fn not_a_case(rt: &impl Print) -> io::Result<()> {
+    println!(rt; ": not a case")
 }
 
 // One line: a name, an input and its answers.
 fn answered(rt: &impl Print, line: &[u8], calls: bool) -> io::Result<()> {
-    let a = find(line, 0, b' ');
-    let name = front_of(line, a);
+    let name_end = find(line, 0, b' ');
+    let name = front_of(line, name_end);
     put(rt, name)?;
-    if a < line.len() {
-        let rest = a + 1;
-        let b = find(line, rest, b' ');
-        if b < line.len() {
-            let mut input = [0u8; 24578];
-            let n = unhex(&line[rest..b], &mut input);
-            let last = b + 1;
-            let mut expected = [0u8; 16384];
-            let k = unhex(&line[last..], &mut expected);
-            judge(rt, calls, &input, n, &expected, k)?;
-            if !calls {
-                in_pieces(rt, name, &input, n, &expected, k)?;
-            }
-            return Ok(());
-        }
+    if name_end == line.len() {
+        return not_a_case(rt);
     }
-    println!(rt; ": not a case")
+    let input_start = name_end + 1;
+    let input_end = find(line, input_start, b' ');
+    if input_end == line.len() {
+        return not_a_case(rt);
+    }
+    let mut input_room = [0u8; INPUT_ROOM_BYTES];
+    let input_size = unhex(&line[input_start..input_end], &mut input_room);
+    let input = front_of(&input_room, input_size);
+    let mut expected_room = [0u8; program::MAX_ANSWER_BYTES];
+    let expected_size = unhex(rest_of(line, input_end + 1), &mut expected_room);
+    let expected = front_of(&expected_room, expected_size);
+    judge(rt, calls, input, expected)?;
+    if !calls {
+        in_pieces(rt, name, input, expected)?;
+    }
+    Ok(())
 }
 
 // One line of a file.
