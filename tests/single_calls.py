@@ -1,9 +1,9 @@
 #!/usr/bin/env python3
 """Holds the lines of crates/single_calls to the documents 01 and 02, read a second time and independently of the code and its definitions.
 
-Usage: tests/single_calls.py [FILE], by default the stored output. Each line names a call, its arguments and its answer; the answer is worked
-out again here from 01's sections "Codes" and "Single calls" and from 02's width of an owner word's tag and its EDEADLK alone. Ends with status 1
-at the first line that differs.
+Usage: tests/single_calls.py [FILE], by default the stored output, to which `rt ci` holds what the program writes; `rt run >FILE` in
+crates/single_calls writes it anew. Each line names a call, its arguments and its answer; the answer is worked out again here from 01's sections
+"Codes" and "Single calls" and from 02's width of an owner word's tag and its EDEADLK alone. Ends with status 1 at the first line that differs.
 """
 import os
 import sys

@@ -1,59 +1,53 @@
 // Every constant of the crate error, with its number.
 use crate::show;
 use error::Code;
+use std::io;
 
-fn constant(name: &[u8], n: i32) {
-    show::text(name);
-    show::text(b" is ");
-    show::signed(n);
-    show::end();
+fn constant(rt: &impl Print, name: &str, number: i32) -> io::Result<()> {
+    println!(rt; "{name} is {number}")
 }
 
-fn first() {
-    constant(b"OK", error::OK);
-    constant(b"EPERM", error::EPERM);
-    constant(b"ENOENT", error::ENOENT);
-    constant(b"EBADF", error::EBADF);
-    constant(b"EAGAIN", error::EAGAIN);
-    constant(b"ENOMEM", error::ENOMEM);
-    constant(b"EBUSY", error::EBUSY);
-    constant(b"EINVAL", error::EINVAL);
+fn first(rt: &impl Print) -> io::Result<()> {
+    constant(rt, "OK", error::OK)?;
+    constant(rt, "EPERM", error::EPERM)?;
+    constant(rt, "ENOENT", error::ENOENT)?;
+    constant(rt, "EBADF", error::EBADF)?;
+    constant(rt, "EAGAIN", error::EAGAIN)?;
+    constant(rt, "ENOMEM", error::ENOMEM)?;
+    constant(rt, "EBUSY", error::EBUSY)?;
+    constant(rt, "EINVAL", error::EINVAL)
 }
 
-fn second() {
-    constant(b"ENOSPC", error::ENOSPC);
-    constant(b"EPIPE", error::EPIPE);
-    constant(b"ENOMSG", error::ENOMSG);
-    constant(b"EDEADLK", error::EDEADLK);
-    constant(b"EADDRINUSE", error::EADDRINUSE);
-    constant(b"EALREADY", error::EALREADY);
-    constant(b"ETIMEDOUT", error::ETIMEDOUT);
-    constant(b"EOVERFLOW", error::EOVERFLOW);
-    constant(b"ECANCELED", error::ECANCELED);
+fn second(rt: &impl Print) -> io::Result<()> {
+    constant(rt, "ENOSPC", error::ENOSPC)?;
+    constant(rt, "EPIPE", error::EPIPE)?;
+    constant(rt, "ENOMSG", error::ENOMSG)?;
+    constant(rt, "EDEADLK", error::EDEADLK)?;
+    constant(rt, "EADDRINUSE", error::EADDRINUSE)?;
+    constant(rt, "EALREADY", error::EALREADY)?;
+    constant(rt, "ETIMEDOUT", error::ETIMEDOUT)?;
+    constant(rt, "EOVERFLOW", error::EOVERFLOW)?;
+    constant(rt, "ECANCELED", error::ECANCELED)
 }
 
 // A case of the enum, by name, with its number.
-fn numbered(c: Code) {
-    show::text(b"number");
-    show::code(c);
-    show::text(b" ");
-    show::signed(error::number(c));
-    show::end();
+fn numbered(rt: &impl Print, case: Code) -> io::Result<()> {
+    println!(rt; "number: {} {}", show::code(case), error::number(case))
 }
 
-fn cases() {
-    numbered(Code::Ok);
-    numbered(Code::Eperm);
-    numbered(Code::Enomem);
-    numbered(Code::Ebusy);
-    numbered(Code::Einval);
-    numbered(Code::Edeadlk);
-    numbered(Code::Ealready);
-    numbered(Code::Eoverflow);
+fn cases(rt: &impl Print) -> io::Result<()> {
+    numbered(rt, Code::Ok)?;
+    numbered(rt, Code::Eperm)?;
+    numbered(rt, Code::Enomem)?;
+    numbered(rt, Code::Ebusy)?;
+    numbered(rt, Code::Einval)?;
+    numbered(rt, Code::Edeadlk)?;
+    numbered(rt, Code::Ealready)?;
+    numbered(rt, Code::Eoverflow)
 }
 
-pub(crate) fn all() {
-    first();
-    second();
-    cases();
+pub(crate) fn all(rt: &impl Print) -> io::Result<()> {
+    first(rt)?;
+    second(rt)?;
+    cases(rt)
 }

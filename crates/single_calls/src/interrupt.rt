@@ -1,6 +1,7 @@
 // The calls on interrupts.
 use crate::show;
 use ipi::CpuRecord;
+use std::io;
 
 const TARGETS: [i32; 9] = [-2147483648, -129, -128, -1, 0, 5, 127, 128, 2147483647];
 
@@ -75,70 +76,72 @@ const FOUR: [CpuRecord; 16] = [
     },
 ];
 
-fn compute(current: u32, target: i32, mask: u32, num: u32, max: u32) {
-    show::text(b"compute_ipi_mask");
-    show::argument(b"current", current as u64);
-    show::text(b" target ");
-    show::signed(target);
-    show::argument(b"mask", mask as u64);
-    show::argument(b"num", num as u64);
-    show::argument(b"max", max as u64);
+fn compute(
+    rt: &impl Print,
+    current: u32,
+    target: i32,
+    mask: u32,
+    num: u32,
+    max: u32,
+) -> io::Result<()> {
     let r = ipi::compute_ipi_mask(current, target, mask, FOUR, num, max);
-    let code = r.code;
-    show::code(code);
-    show::argument(b"mask", r.mask as u64);
-    show::end();
+    println!(rt;
+        "compute_ipi_mask current {current} target {target} mask {mask} num {num} max {max}: {} mask {}",
+        show::code(r.code),
+        r.mask
+    )
 }
 
-fn for_target(target: i32) {
-    for i in 0..11 {
-        compute(0, target, MASKS[i], 4, 4);
-        compute(2, target, MASKS[i], 16, 16);
+fn for_target(rt: &impl Print, target: i32) -> io::Result<()> {
+    for mask in MASKS {
+        compute(rt, 0, target, mask, 4, 4)?;
+        compute(rt, 2, target, mask, 16, 16)?;
     }
+    Ok(())
 }
 
-fn in_range(num: u32, max: u32) {
-    compute(0, 5, 15, num, max);
-    compute(3, 5, 0xffff_ffff, num, max);
-    compute(0xffff_ffff, 5, 15, num, max);
+fn in_range(rt: &impl Print, num: u32, max: u32) -> io::Result<()> {
+    compute(rt, 0, 5, 15, num, max)?;
+    compute(rt, 3, 5, 0xffff_ffff, num, max)?;
+    compute(rt, 0xffff_ffff, 5, 15, num, max)
 }
 
-fn of_count(num: u32) {
-    for i in 0..7 {
-        in_range(num, COUNTS[i]);
+fn of_count(rt: &impl Print, num: u32) -> io::Result<()> {
+    for max in COUNTS {
+        in_range(rt, num, max)?;
     }
+    Ok(())
 }
 
-fn validate(mask: u32, current: u32, max: u32) {
-    show::text(b"validate_ipi_mask");
-    show::argument(b"mask", mask as u64);
-    show::argument(b"current", current as u64);
-    show::argument(b"max", max as u64);
+fn validate(rt: &impl Print, mask: u32, current: u32, max: u32) -> io::Result<()> {
     let r = ipi::validate_ipi_mask(mask, current, max);
-    let code = r.code;
-    show::code(code);
-    show::yes_or_no(r.yes);
-    show::end();
+    println!(rt;
+        "validate_ipi_mask mask {mask} current {current} max {max}: {} {}",
+        show::code(r.code),
+        show::yes_or_no(r.yes)
+    )
 }
 
-fn valid_for(max: u32) {
-    for i in 0..11 {
-        validate(MASKS[i], 0, max);
-        validate(MASKS[i], 3, max);
-        validate(MASKS[i], 16, max);
+fn valid_for(rt: &impl Print, max: u32) -> io::Result<()> {
+    for mask in MASKS {
+        validate(rt, mask, 0, max)?;
+        validate(rt, mask, 3, max)?;
+        validate(rt, mask, 16, max)?;
     }
+    Ok(())
 }
 
-fn counts() {
-    for i in 0..7 {
-        of_count(COUNTS[i]);
-        valid_for(COUNTS[i]);
+fn counts(rt: &impl Print) -> io::Result<()> {
+    for count in COUNTS {
+        of_count(rt, count)?;
+        valid_for(rt, count)?;
     }
+    Ok(())
 }
 
-pub(crate) fn all() {
-    for i in 0..9 {
-        for_target(TARGETS[i]);
+pub(crate) fn all(rt: &impl Print) -> io::Result<()> {
+    for target in TARGETS {
+        for_target(rt, target)?;
     }
-    counts();
+    counts(rt)
 }

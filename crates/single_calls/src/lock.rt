@@ -2,179 +2,189 @@
 use crate::show;
 use error::YesNo;
 use spinlock::{Changed, Operation, Owner, SpinlockState};
+use std::{fmt, io};
 
 const DEPTHS: [u32; 10] = [0, 1, 2, 3, 4, 254, 255, 256, 0x8000_0000, 0xffff_ffff];
 
 const THREADS: [u32; 3] = [0, 7, 0xffff_ffff];
 
-fn owner(o: Owner) {
-    match o {
-        Owner::None => show::text(b" owner none"),
-        Owner::Thread(t) => show::argument(b"owner", t as u64),
+// An owner as the lines have it.
+#[derive(Clone, Copy)]
+struct Holder(Owner);
+
+impl fmt::Display for Holder {
+    fn fmt<W: fmt::Write>(&self, f: &mut fmt::Formatter<W>) -> fmt::Result {
+        match self.0 {
+            Owner::None => write!(f, "owner none"),
+            Owner::Thread(thread) => write!(f, "owner {thread}"),
+        }
     }
 }
 
-fn state(s: SpinlockState) {
-    let o = s.owner;
-    owner(o);
-    show::argument(b"depth", s.nest_count as u64);
-    show::flag(b"irq", s.irq_saved);
+// And a lock record.
+#[derive(Clone, Copy)]
+struct Record(SpinlockState);
+
+impl fmt::Display for Record {
+    fn fmt<W: fmt::Write>(&self, f: &mut fmt::Formatter<W>) -> fmt::Result {
+        let owner = Holder(self.0.owner);
+        let depth = self.0.nest_count;
+        let irq = show::flag(self.0.irq_saved);
+        write!(f, "{owner} depth {depth} irq {irq}")
+    }
 }
 
 // The call's name, the record and the thread that asks.
-fn asked(name: &[u8], s: SpinlockState, tid: u32) {
-    show::text(name);
-    state(s);
-    show::argument(b"thread", tid as u64);
+fn asked(rt: &impl Print, name: &str, s: SpinlockState, tid: u32) -> io::Result<()> {
+    print!(rt; "{name} {} thread {tid}", Record(s))
 }
 
 // What a call that changes the record gave.
-fn changed(r: Changed) {
-    let code = r.code;
-    show::code(code);
-    let after = r.state;
-    state(after);
-    show::end();
+fn changed(rt: &impl Print, r: Changed) -> io::Result<()> {
+    println!(rt; ": {} {}", show::code(r.code), Record(r.state))
 }
 
-fn acquired(name: &[u8], s: SpinlockState, tid: u32, nested: bool, r: Changed) {
-    asked(name, s, tid);
-    show::flag(b"nested", nested);
-    changed(r);
+fn acquired(
+    rt: &impl Print,
+    name: &str,
+    s: SpinlockState,
+    tid: u32,
+    nested: bool,
+    r: Changed,
+) -> io::Result<()> {
+    asked(rt, name, s, tid)?;
+    print!(rt; " nested {}", show::flag(nested))?;
+    changed(rt, r)
 }
 
 // A release, or a plain acquire again.
-fn done(name: &[u8], s: SpinlockState, tid: u32, r: Changed) {
-    asked(name, s, tid);
-    changed(r);
+fn done(rt: &impl Print, name: &str, s: SpinlockState, tid: u32, r: Changed) -> io::Result<()> {
+    asked(rt, name, s, tid)?;
+    changed(rt, r)
 }
 
-fn answered(name: &[u8], s: SpinlockState, tid: u32, r: YesNo) {
-    asked(name, s, tid);
-    let code = r.code;
-    show::code(code);
-    show::yes_or_no(r.yes);
-    show::end();
+fn answered(rt: &impl Print, name: &str, s: SpinlockState, tid: u32, r: YesNo) -> io::Result<()> {
+    asked(rt, name, s, tid)?;
+    println!(rt; ": {} {}", show::code(r.code), show::yes_or_no(r.yes))
 }
 
 // Every call by one thread on one record.
-fn by_thread(s: SpinlockState, tid: u32) {
-    acquired(b"acquire", s, tid, false, s.acquire(tid, false));
-    acquired(b"acquire", s, tid, true, s.acquire(tid, true));
-    done(b"acquire_again", s, tid, s.acquire_again(tid));
-    done(b"release", s, tid, s.release(tid));
+fn by_thread(rt: &impl Print, s: SpinlockState, tid: u32) -> io::Result<()> {
+    acquired(rt, "acquire", s, tid, false, s.acquire(tid, false))?;
+    acquired(rt, "acquire", s, tid, true, s.acquire(tid, true))?;
+    done(rt, "acquire_again", s, tid, s.acquire_again(tid))?;
+    done(rt, "release", s, tid, s.release(tid))?;
     answered(
-        b"acquire_check",
+        rt,
+        "acquire_check",
         s,
         tid,
         spinlock_reads::acquire_check(s, tid),
-    );
+    )?;
     answered(
-        b"release_check",
+        rt,
+        "release_check",
         s,
         tid,
         spinlock_reads::release_check(s, tid),
-    );
-    answered(b"is_owner", s, tid, spinlock_reads::is_owner(s, tid));
-    elsewhere(s, tid);
+    )?;
+    answered(rt, "is_owner", s, tid, spinlock_reads::is_owner(s, tid))?;
+    elsewhere(rt, s, tid)
 }
 
 // An acquire by a thread on another CPU than it took the lock on, if it did.
-fn acquire_elsewhere(s: SpinlockState, tid: u32, nested: bool) {
+fn acquire_elsewhere(rt: &impl Print, s: SpinlockState, tid: u32, nested: bool) -> io::Result<()> {
     acquired(
-        b"acquire_elsewhere",
+        rt,
+        "acquire_elsewhere",
         s,
         tid,
         nested,
         s.operate(Operation::Acquire { nested }, tid, true),
-    );
+    )
 }
 
 // Both acquires and a release by such a thread.
-fn elsewhere(s: SpinlockState, tid: u32) {
-    acquire_elsewhere(s, tid, false);
-    acquire_elsewhere(s, tid, true);
+fn elsewhere(rt: &impl Print, s: SpinlockState, tid: u32) -> io::Result<()> {
+    acquire_elsewhere(rt, s, tid, false)?;
+    acquire_elsewhere(rt, s, tid, true)?;
     done(
-        b"release_elsewhere",
+        rt,
+        "release_elsewhere",
         s,
         tid,
         s.operate(Operation::Release, tid, true),
-    );
+    )
 }
 
-fn read(name: &[u8], s: SpinlockState, r: YesNo) {
-    show::text(name);
-    state(s);
-    let code = r.code;
-    show::code(code);
-    show::yes_or_no(r.yes);
-    show::end();
+fn read(rt: &impl Print, name: &str, s: SpinlockState, r: YesNo) -> io::Result<()> {
+    println!(rt;
+        "{name} {}: {} {}",
+        Record(s),
+        show::code(r.code),
+        show::yes_or_no(r.yes)
+    )
 }
 
-fn depth(s: SpinlockState) {
-    show::text(b"nest_depth");
-    state(s);
+fn depth(rt: &impl Print, s: SpinlockState) -> io::Result<()> {
     let r = spinlock_reads::nest_depth(s);
-    let code = r.code;
-    show::code(code);
-    show::argument(b"depth", r.depth as u64);
-    show::end();
+    println!(rt;
+        "nest_depth {}: {} depth {}",
+        Record(s),
+        show::code(r.code),
+        r.depth
+    )
 }
 
-fn owner_of(s: SpinlockState) {
-    show::text(b"owner_get");
-    state(s);
+fn owner_of(rt: &impl Print, s: SpinlockState) -> io::Result<()> {
     let r = spinlock_reads::owner_get(s);
-    let code = r.code;
-    show::code(code);
-    let o = r.owner;
-    owner(o);
-    show::end();
+    println!(rt;
+        "owner_get {}: {} {}",
+        Record(s),
+        show::code(r.code),
+        Holder(r.owner)
+    )
 }
 
-fn validity(s: SpinlockState) {
-    show::text(b"valid");
-    state(s);
-    show::text(b":");
-    show::yes_or_no(s.valid());
-    show::end();
+fn validity(rt: &impl Print, s: SpinlockState) -> io::Result<()> {
+    println!(rt; "valid {}: {}", Record(s), show::yes_or_no(s.valid()))
 }
 
-fn on_record(s: SpinlockState) {
-    validity(s);
-    read(b"is_held", s, spinlock_reads::is_held(s));
-    read(b"is_free", s, spinlock_reads::is_free(s));
-    depth(s);
-    owner_of(s);
-    for i in 0..3 {
-        by_thread(s, THREADS[i]);
+fn on_record(rt: &impl Print, s: SpinlockState) -> io::Result<()> {
+    validity(rt, s)?;
+    read(rt, "is_held", s, spinlock_reads::is_held(s))?;
+    read(rt, "is_free", s, spinlock_reads::is_free(s))?;
+    depth(rt, s)?;
+    owner_of(rt, s)?;
+    for tid in THREADS {
+        by_thread(rt, s, tid)?;
     }
+    Ok(())
 }
 
-fn at_depth(nest_count: u32, irq_saved: bool) {
-    on_record(SpinlockState {
-        owner: Owner::None,
-        nest_count,
-        irq_saved,
-    });
-    on_record(SpinlockState {
-        owner: Owner::Thread(7),
-        nest_count,
-        irq_saved,
-    });
-}
-
-fn fresh() {
-    show::text(b"new:");
-    state(SpinlockState::new());
-    show::end();
-}
-
-pub(crate) fn all() {
-    fresh();
-    for i in 0..10 {
-        let nest_count = DEPTHS[i];
-        at_depth(nest_count, false);
-        at_depth(nest_count, true);
+fn at_depth(rt: &impl Print, nest_count: u32, irq_saved: bool) -> io::Result<()> {
+    for owner in [Owner::None, Owner::Thread(7)] {
+        on_record(
+            rt,
+            SpinlockState {
+                owner,
+                nest_count,
+                irq_saved,
+            },
+        )?;
     }
+    Ok(())
+}
+
+fn fresh(rt: &impl Print) -> io::Result<()> {
+    println!(rt; "new: {}", Record(SpinlockState::new()))
+}
+
+pub(crate) fn all(rt: &impl Print) -> io::Result<()> {
+    fresh(rt)?;
+    for nest_count in DEPTHS {
+        at_depth(rt, nest_count, false)?;
+        at_depth(rt, nest_count, true)?;
+    }
+    Ok(())
 }

@@ -3,6 +3,8 @@
 
 #![tactic(auto)]
 
+use std::io;
+
 mod codes;
 mod interrupt;
 mod lock;
@@ -10,10 +12,10 @@ mod mask;
 mod owner;
 mod show;
 
-fn main() {
-    codes::all();
-    owner::all();
-    lock::all();
-    mask::all();
-    interrupt::all();
+fn main(rt: HostRuntime) -> io::Result<()> {
+    codes::all(&rt)?;
+    owner::all(&rt)?;
+    lock::all(&rt)?;
+    mask::all(&rt)?;
+    interrupt::all(&rt)
 }

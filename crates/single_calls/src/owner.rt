@@ -1,6 +1,7 @@
 // The calls on owner words.
 use crate::show;
 use spinlock_validate::Decoded;
+use std::io;
 
 const CPUS: [u32; 9] = [0, 1, 3, 4, 15, 16, 255, 256, 0xffff_ffff];
 
@@ -29,94 +30,83 @@ const WORDS: [u64; 22] = [
     0xffff_ffff_ffff_ffff,
 ];
 
-fn compute(cpu: u32, thread: u64, wide: bool) {
-    show::text(b"spin_lock_compute_owner");
-    show::argument(b"cpu", cpu as u64);
-    show::argument(b"thread", thread);
-    show::flag(b"wide", wide);
+fn compute(rt: &impl Print, cpu: u32, thread: u64, wide: bool) -> io::Result<()> {
     let width = spinlock_validate::width_by(wide);
     let r = spinlock_validate::spin_lock_compute_owner(cpu, thread, width);
-    let code = r.code;
-    show::code(code);
-    show::argument(b"word", r.word);
-    show::end();
+    println!(rt;
+        "spin_lock_compute_owner cpu {cpu} thread {thread} wide {}: {} word {}",
+        show::flag(wide),
+        show::code(r.code),
+        r.word
+    )
 }
 
-fn decode(word: u64, wide: bool) {
-    show::text(b"spin_lock_decode_owner");
-    show::argument(b"word", word);
-    show::flag(b"wide", wide);
+fn decode(rt: &impl Print, word: u64, wide: bool) -> io::Result<()> {
+    print!(rt;
+        "spin_lock_decode_owner word {word} wide {}: ",
+        show::flag(wide)
+    )?;
     let width = spinlock_validate::width_by(wide);
     match spinlock_validate::spin_lock_decode_owner(word, width) {
-        Decoded::Free => show::text(b": OK free"),
-        Decoded::Held { thread, cpu } => {
-            show::text(b": OK held");
-            show::argument(b"thread", thread);
-            show::argument(b"cpu", cpu as u64);
-        }
-        Decoded::BadWord => show::text(b": EINVAL none"),
+        Decoded::Free => println!(rt; "OK free"),
+        Decoded::Held { thread, cpu } => println!(rt; "OK held thread {thread} cpu {cpu}"),
+        Decoded::BadWord => println!(rt; "EINVAL none"),
     }
-    show::end();
 }
 
-fn lock_valid(word: u64, cpu: u32, wide: bool) {
-    show::text(b"spin_lock_valid");
-    show::argument(b"word", word);
-    show::argument(b"cpu", cpu as u64);
-    show::flag(b"wide", wide);
+fn lock_valid(rt: &impl Print, word: u64, cpu: u32, wide: bool) -> io::Result<()> {
     let width = spinlock_validate::width_by(wide);
     let r = spinlock_validate::spin_lock_valid(word, cpu, width);
-    let code = r.code;
-    show::code(code);
-    show::yes_or_no(r.yes);
-    show::end();
+    println!(rt;
+        "spin_lock_valid word {word} cpu {cpu} wide {}: {} {}",
+        show::flag(wide),
+        show::code(r.code),
+        show::yes_or_no(r.yes)
+    )
 }
 
-fn unlock_valid(word: u64, cpu: u32, thread: u64, wide: bool) {
-    show::text(b"spin_unlock_valid");
-    show::argument(b"word", word);
-    show::argument(b"cpu", cpu as u64);
-    show::argument(b"thread", thread);
-    show::flag(b"wide", wide);
+fn unlock_valid(rt: &impl Print, word: u64, cpu: u32, thread: u64, wide: bool) -> io::Result<()> {
     let width = spinlock_validate::width_by(wide);
     let r = spinlock_validate::spin_unlock_valid(word, cpu, thread, width);
-    let code = r.code;
-    show::code(code);
-    show::yes_or_no(r.yes);
-    show::end();
+    println!(rt;
+        "spin_unlock_valid word {word} cpu {cpu} thread {thread} wide {}: {} {}",
+        show::flag(wide),
+        show::code(r.code),
+        show::yes_or_no(r.yes)
+    )
 }
 
 // Every call on one word, or on one thread word, with one CPU and a tag of two bits.
-fn narrow(word: u64, cpu: u32) {
-    compute(cpu, word, false);
-    lock_valid(word, cpu, false);
-    unlock_valid(11, cpu, word, false);
-    unlock_valid(word, cpu, 8, false);
-    unlock_valid(word, cpu, 0xffff_ffff_ffff_fffc, false);
+fn narrow(rt: &impl Print, word: u64, cpu: u32) -> io::Result<()> {
+    compute(rt, cpu, word, false)?;
+    lock_valid(rt, word, cpu, false)?;
+    unlock_valid(rt, 11, cpu, word, false)?;
+    unlock_valid(rt, word, cpu, 8, false)?;
+    unlock_valid(rt, word, cpu, 0xffff_ffff_ffff_fffc, false)
 }
 
 // And with a tag of four.
-fn wide(word: u64, cpu: u32) {
-    compute(cpu, word, true);
-    lock_valid(word, cpu, true);
-    unlock_valid(31, cpu, word, true);
-    unlock_valid(word, cpu, 16, true);
-    unlock_valid(word, cpu, 0xffff_ffff_ffff_fff0, true);
+fn wide(rt: &impl Print, word: u64, cpu: u32) -> io::Result<()> {
+    compute(rt, cpu, word, true)?;
+    lock_valid(rt, word, cpu, true)?;
+    unlock_valid(rt, 31, cpu, word, true)?;
+    unlock_valid(rt, word, cpu, 16, true)?;
+    unlock_valid(rt, word, cpu, 0xffff_ffff_ffff_fff0, true)
 }
 
-fn on_each_cpu(word: u64) {
-    for i in 0..9 {
-        let cpu = CPUS[i];
-        narrow(word, cpu);
-        wide(word, cpu);
+fn on_each_cpu(rt: &impl Print, word: u64) -> io::Result<()> {
+    for cpu in CPUS {
+        narrow(rt, word, cpu)?;
+        wide(rt, word, cpu)?;
     }
+    Ok(())
 }
 
-pub(crate) fn all() {
-    for i in 0..22 {
-        let word = WORDS[i];
-        decode(word, false);
-        decode(word, true);
-        on_each_cpu(word);
+pub(crate) fn all(rt: &impl Print) -> io::Result<()> {
+    for word in WORDS {
+        decode(rt, word, false)?;
+        decode(rt, word, true)?;
+        on_each_cpu(rt, word)?;
     }
+    Ok(())
 }

@@ -2,6 +2,7 @@
 use answers::ANSWER_BYTES;
 use claims::Verdict;
 use record::RECORD_BYTES;
+use std::io;
 
 // The log of a case may be too long by one record.
 const MOST_INPUT_BYTES: usize = program::MAX_INPUT_BYTES + RECORD_BYTES;
@@ -12,20 +13,12 @@ const MOST_CLAIM_BYTES: usize = program::MAX_ANSWER_BYTES + ANSWER_BYTES;
 // No digit follows a larger number than this.
 const LARGE_NUMBER: u32 = 100000;
 
-// A stored number.
-#[derive(Clone, Copy)]
-enum Decimal {
-    Number(u32),
-    Malformed,
-}
-
 // A stored verdict: accepted, the record that differs, or the number of the code.
 #[derive(Clone, Copy)]
 enum Stored {
     Accepted,
     Differs(u32),
     Refused(i32),
-    Malformed,
 }
 
 // The first word of a text.
@@ -40,94 +33,64 @@ fn behind(text: &[u8]) -> &[u8] {
 
 // Whether a text is the sign for no bytes.
 fn is_nothing(text: &[u8]) -> bool {
-    check::same(text, b"-")
+    text == b"-".as_slice()
 }
 
 // Whether a text is made of pairs of digits, at least one and at most so many.
 fn is_pairs(text: &[u8], most: usize) -> bool {
-    text.len() > 0 && text.len() % 2 == 0 && text.len() / 2 <= most
+    !text.is_empty() && text.len() % 2 == 0 && text.len() / 2 <= most
 }
 
 // The number that decimal digits spell.
-fn number_of(text: &[u8]) -> Decimal {
+fn number_of(text: &[u8]) -> Option<u32> {
+    if text.is_empty() {
+        return None;
+    }
     let mut number: u32 = 0;
-    let mut i: usize = 0;
-    while i < text.len() {
-        let glyph = text[i];
-        if glyph < b'0' || glyph > b'9' {
-            return Decimal::Malformed;
-        }
-        if number > LARGE_NUMBER {
-            return Decimal::Malformed;
+    for &glyph in text {
+        if !glyph.is_ascii_digit() || number > LARGE_NUMBER {
+            return None;
         }
         number = number * 10 + crate::digit(glyph) as u32;
-        i += 1;
     }
-    if i == 0 {
-        return Decimal::Malformed;
-    }
-    Decimal::Number(number)
+    Some(number)
 }
 
 // A verdict that names a record.
-fn differs(number: &[u8]) -> Stored {
-    match number_of(number) {
-        Decimal::Number(record) => Stored::Differs(record),
-        Decimal::Malformed => Stored::Malformed,
-    }
+fn differs(number: &[u8]) -> Option<Stored> {
+    Some(Stored::Differs(number_of(number)?))
 }
 
 // A verdict that names a code, by its number with the minus sign. The number is made in two's complement.
-fn refused(number: &[u8]) -> Stored {
+fn refused(number: &[u8]) -> Option<Stored> {
     if crate::byte_at(number, 0) != b'-' {
-        return Stored::Malformed;
+        return None;
     }
-    match number_of(crate::rest_of(number, 1)) {
-        Decimal::Number(size) => Stored::Refused(high_first::signed(std::num::wrapping_sub_u32(
-            0, size,
-        ))),
-        Decimal::Malformed => Stored::Malformed,
-    }
+    let size = number_of(crate::rest_of(number, 1))?;
+    Some(Stored::Refused(high_first::signed(0u32.wrapping_sub(size))))
 }
 
 // What the words of a verdict say.
-fn stored_verdict(text: &[u8]) -> Stored {
-    if check::same(text, b"accepted") {
-        return Stored::Accepted;
+fn stored_verdict(text: &[u8]) -> Option<Stored> {
+    if text == b"accepted".as_slice() {
+        return Some(Stored::Accepted);
     }
-    if check::same(word(text), b"differs") {
+    if word(text) == b"differs".as_slice() {
         return differs(behind(text));
     }
-    if check::same(word(text), b"refused") {
+    if word(text) == b"refused".as_slice() {
         return refused(behind(text));
     }
-    Stored::Malformed
+    None
 }
 
 // Whether a verdict is the stored one.
 fn agrees(found: Verdict, stored: Stored) -> bool {
-    match found {
-        Verdict::Right => {
-            if let Stored::Accepted = stored {
-                true
-            } else {
-                false
-            }
-        }
-        Verdict::Differs(record) => {
-            if let Stored::Differs(expected) = stored {
-                record == expected
-            } else {
-                false
-            }
-        }
-        Verdict::Refused(code) => {
-            if let Stored::Refused(expected) = stored {
-                error::number(code) == expected
-            } else {
-                false
-            }
-        }
+    match (found, stored) {
+        (Verdict::Right, Stored::Accepted) => true,
+        (Verdict::Differs(record), Stored::Differs(expected)) => record == expected,
+        (Verdict::Refused(code), Stored::Refused(expected)) => error::number(code) == expected,
+        _ => false,
     }
 }
 
@@ -136,7 +99,7 @@ fn as_expected(input: &[u8], claim: &[u8], stored: Stored) -> bool {
     if !agrees(claims::check_input(input, claim), stored) {
         return false;
     }
-    if input.len() == 0 {
+    if input.is_empty() {
         return true;
     }
     agrees(
@@ -155,7 +118,7 @@ fn is_input(setup: &[u8], log: &[u8]) -> bool {
 
 // Decodes a setup byte and the log behind it, and says how many bytes they are.
 fn unhex_input(setup: &[u8], log: &[u8], room: &mut [u8]) -> usize {
-    if room.len() == 0 {
+    if room.is_empty() {
         return 0;
     }
     crate::unhex(setup, room);
@@ -164,39 +127,43 @@ fn unhex_input(setup: &[u8], log: &[u8], room: &mut [u8]) -> usize {
 }
 
 // Judges a claim, and compares.
-fn compare(setup: &[u8], log: &[u8], claim: &[u8], stored: Stored) {
+fn compare(
+    rt: &impl Print,
+    setup: &[u8],
+    log: &[u8],
+    claim: &[u8],
+    stored: Stored,
+) -> io::Result<()> {
     let mut input = [0u8; MOST_INPUT_BYTES];
     let n = unhex_input(setup, log, &mut input);
     let mut claimed = [0u8; MOST_CLAIM_BYTES];
     let k = crate::unhex(claim, &mut claimed);
-    crate::verdict(as_expected(
-        crate::front_of(&input, n),
-        crate::front_of(&claimed, k),
-        stored,
-    ));
+    crate::verdict(
+        rt,
+        as_expected(
+            crate::front_of(&input, n),
+            crate::front_of(&claimed, k),
+            stored,
+        ),
+    )
 }
 
 // Whether the parts of a line are those of a case.
-fn is_case(setup: &[u8], log: &[u8], claim: &[u8], stored: Stored) -> bool {
-    if let Stored::Malformed = stored {
-        return false;
-    }
+fn is_case(setup: &[u8], log: &[u8], claim: &[u8]) -> bool {
     is_input(setup, log) && (is_nothing(claim) || is_pairs(claim, MOST_CLAIM_BYTES))
 }
 
 // One line: a name, the setup byte, the log, the claimed answers and the verdict on them.
-pub(crate) fn case(line: &[u8]) {
-    crate::put(word(line));
+pub(crate) fn case(rt: &impl Print, line: &[u8]) -> io::Result<()> {
+    crate::put(rt, word(line))?;
     let from_setup = behind(line);
     let from_log = behind(from_setup);
     let from_claim = behind(from_log);
     let setup = word(from_setup);
     let log = word(from_log);
     let claim = word(from_claim);
-    let stored = stored_verdict(behind(from_claim));
-    if is_case(setup, log, claim, stored) {
-        compare(setup, log, claim, stored);
-    } else {
-        crate::put(b": not a case\n");
+    match stored_verdict(behind(from_claim)) {
+        Some(stored) if is_case(setup, log, claim) => compare(rt, setup, log, claim, stored),
+        _ => crate::not_a_case(rt),
     }
 }

@@ -8,7 +8,12 @@ mod pieces;
 
 ghost use Rattle.std.specs.Prelude.{◌+◌, ◌*◌, ◌<◌, ◌≤◌, length};
 
-use libc::STDOUT_FILENO;
+use std::fs;
+use std::io::{self, Write};
+use std::rt::Files;
+
+// The room for an input ends one byte behind the longest one.
+const INPUT_ROOM_BYTES: usize = program::MAX_INPUT_BYTES + 1;
 
 // What the lines of a file are: inputs of the program, calls, or claims with the verdict on them.
 #[derive(Clone, Copy)]
@@ -18,8 +23,8 @@ enum Lines {
     Checks,
 }
 
-fn put(text: &[u8]) {
-    io::write_all(STDOUT_FILENO, text);
+fn put(rt: &impl Print, text: &[u8]) -> io::Result<()> {
+    io::writer(rt).write_all(text)
 }
 
 // The first place from `from` on that has the byte, or the end.
@@ -27,32 +32,26 @@ fn find(s: &[u8], from: usize, byte: u8) -> usize
     requires { from ≤ length s.now }
     ensures { (from ≤ result) × (result ≤ length s.now) }
 {
-    let mut i = from;
-    while i < s.len() {
+    for i in from..s.len() {
         if s[i] == byte {
             return i;
         }
-        i += 1;
     }
-    i
+    s.len()
 }
 
 // A hexadecimal digit; anything else counts as 0.
 fn digit(glyph: u8) -> u8
     ensures { result < 16 }
 {
-    if glyph < 48 {
-        return 0;
+    match glyph {
+        b'0'..=b'9' => glyph - b'0',
+        b'A'..=b'F' => glyph - b'A' + 10,
+        _ => 0,
     }
-    if glyph < 58 {
-        return glyph - 48;
-    }
-    if glyph < 65 {
-        return 0;
-    }
-    if glyph < 71 { glyph - 55 } else { 0 }
 }
 
+// The byte that two digits spell.
 fn pair(text: &[u8], i: usize) -> u8
     requires { i * 2 + 2 ≤ length text.now }
 {
@@ -70,47 +69,30 @@ fn place(room: &mut [u8], i: usize, byte: u8) {
 // Decodes hexadecimal text into the room, as far as it reaches, and says how many bytes that is.
 fn unhex(text: &[u8], room: &mut [u8]) -> usize {
     let count = text.len() / 2;
-    let mut i = 0;
-    while i < count {
+    for i in 0..count {
         place(room, i, pair(text, i));
-        i += 1;
     }
-    if count <= room.len() {
-        count
-    } else {
-        room.len()
-    }
+    count.min(room.len())
 }
 
-fn verdict(same: bool) {
+fn verdict(rt: &impl Print, same: bool) -> io::Result<()> {
     if same {
-        put(b": as expected\n");
+        println!(rt; ": as expected")
     } else {
-        put(b": DIFFERS\n");
+        println!(rt; ": DIFFERS")
     }
 }
 
 // Whether the first bytes are those that are expected, and as many.
-fn agree(out: &[u8], size: usize, expected: &[u8], k: usize) -> bool {
-    if size == k {
-        if k <= out.len() {
-            if k <= expected.len() {
-                return check::same(&out[..k], &expected[..k]);
-            }
-        }
-    }
-    false
+fn agree(out: &[u8], size: usize, expected: &[u8]) -> bool {
+    size == expected.len() && size <= out.len() && &out[..size] == expected
 }
 
 // Answers an input, and compares with what is expected.
-fn compare(input: &[u8], n: usize, expected: &[u8], k: usize) {
-    let mut out = [0u8; 16384];
-    if n <= input.len() {
-        let response = program::respond(&input[..n], &mut out);
-        verdict(agree(&out, response.size, expected, k));
-        return;
-    }
-    verdict(false);
+fn compare(rt: &impl Print, input: &[u8], expected: &[u8]) -> io::Result<()> {
+    let mut out = [0u8; program::MAX_ANSWER_BYTES];
+    let response = program::respond(input, &mut out);
+    verdict(rt, agree(&out, response.size, expected))
 }
 
 // The byte at a place, or 0.
@@ -175,101 +157,94 @@ fn called(input: &[u8], room: &mut [u8]) -> i32 {
 }
 
 // Makes a call, and compares its code and the whole room with what is expected.
-fn compare_call(input: &[u8], expected: &[u8], room: &mut [u8]) {
+fn compare_call(rt: &impl Print, input: &[u8], expected: &[u8]) -> io::Result<()> {
+    let mut room = [0x55u8; 12];
     let len = byte_at(input, 1) as usize;
     if len > room.len() {
-        verdict(false);
-        return;
+        return verdict(rt, false);
     }
     let code = called(input, &mut room[..len]);
-    if code == high_first::signed(word_at(expected, 0)) {
-        verdict(check::same(room, rest_of(expected, 4)));
-    } else {
-        verdict(false);
-    }
+    let same = code == high_first::signed(word_at(expected, 0));
+    verdict(rt, same && room.as_slice() == rest_of(expected, 4))
 }
 
 // Answers an input of the program or makes a call, and compares.
-fn judge(calls: bool, input: &[u8], n: usize, expected: &[u8], k: usize) {
+fn judge(rt: &impl Print, calls: bool, input: &[u8], expected: &[u8]) -> io::Result<()> {
     if calls {
-        if n <= input.len() {
-            if k <= expected.len() {
-                let mut room = [0x55u8; 12];
-                compare_call(&input[..n], &expected[..k], &mut room);
-                return;
-            }
-        }
-        verdict(false);
-        return;
+        compare_call(rt, input, expected)
+    } else {
+        compare(rt, input, expected)
     }
-    compare(input, n, expected, k);
 }
 
 // The log of an input once more, in pieces.
-fn in_pieces(name: &[u8], input: &[u8], n: usize, expected: &[u8], k: usize) {
-    put(name);
-    put(b" in pieces");
-    verdict(pieces::as_expected(front_of(input, n), front_of(expected, k)));
+fn in_pieces(rt: &impl Print, name: &[u8], input: &[u8], expected: &[u8]) -> io::Result<()> {
+    put(rt, name)?;
+    print!(rt; " in pieces")?;
+    verdict(rt, pieces::as_expected(input, expected))
+}
+
+// What is said of a line that can't be read.
+fn not_a_case(rt: &impl Print) -> io::Result<()> {
+    println!(rt; ": not a case")
 }
 
 // One line: a name, an input and its answers.
-fn answered(line: &[u8], calls: bool) {
-    let a = find(line, 0, b' ');
-    let name = front_of(line, a);
-    put(name);
-    if a < line.len() {
-        let rest = a + 1;
-        let b = find(line, rest, b' ');
-        if b < line.len() {
-            let mut input = [0u8; 24578];
-            let n = unhex(&line[rest..b], &mut input);
-            let last = b + 1;
-            let mut expected = [0u8; 16384];
-            let k = unhex(&line[last..], &mut expected);
-            judge(calls, &input, n, &expected, k);
-            if !calls {
-                in_pieces(name, &input, n, &expected, k);
-            }
-            return;
-        }
+fn answered(rt: &impl Print, line: &[u8], calls: bool) -> io::Result<()> {
+    let name_end = find(line, 0, b' ');
+    let name = front_of(line, name_end);
+    put(rt, name)?;
+    if name_end == line.len() {
+        return not_a_case(rt);
     }
-    put(b": not a case\n");
+    let input_start = name_end + 1;
+    let input_end = find(line, input_start, b' ');
+    if input_end == line.len() {
+        return not_a_case(rt);
+    }
+    let mut input_room = [0u8; INPUT_ROOM_BYTES];
+    let input_size = unhex(&line[input_start..input_end], &mut input_room);
+    let input = front_of(&input_room, input_size);
+    let mut expected_room = [0u8; program::MAX_ANSWER_BYTES];
+    let expected_size = unhex(rest_of(line, input_end + 1), &mut expected_room);
+    let expected = front_of(&expected_room, expected_size);
+    judge(rt, calls, input, expected)?;
+    if !calls {
+        in_pieces(rt, name, input, expected)?;
+    }
+    Ok(())
 }
 
 // One line of a file.
-fn case(line: &[u8], lines: Lines) {
+fn case(rt: &impl Print, line: &[u8], lines: Lines) -> io::Result<()> {
     match lines {
-        Lines::Logs => answered(line, false),
-        Lines::Calls => answered(line, true),
-        Lines::Checks => checks::case(line),
+        Lines::Logs => answered(rt, line, false),
+        Lines::Calls => answered(rt, line, true),
+        Lines::Checks => checks::case(rt, line),
     }
 }
 
-fn cases(text: &[u8], lines: Lines) {
+fn cases(rt: &impl Print, text: &[u8], lines: Lines) -> io::Result<()> {
     let mut at = 0;
     while at < text.len() {
         let end = find(text, at, b'\n');
-        case(&text[at..end], lines);
+        case(rt, &text[at..end], lines)?;
         at = end + 1;
     }
+    Ok(())
 }
 
-// Every line of a stored file.
-fn replay(path: &[u8], lines: Lines) {
-    let file = os::open_read(path);
-    if file < 0 {
-        os::fail(path);
-        return;
+// Every line of a stored file. One that can't be read is named on standard error, and the others are replayed.
+fn replay(rt: &(impl Files + Print + Eprint + Alloc), path: &str, lines: Lines) -> io::Result<()> {
+    match fs::read(rt, path) {
+        Ok(text) => cases(rt, &text, lines),
+        Err(error) => eprintln!(rt; "{path}: {error}"),
     }
-    let mut text = [0u8; 300000];
-    let n = io::read_full(file, &mut text);
-    libc::close(file);
-    cases(&text[..n], lines);
 }
 
-fn main() {
-    replay(b"logs-after-06.txt", Lines::Logs);
-    replay(b"calls-01.txt", Lines::Calls);
-    replay(b"checks-08.txt", Lines::Checks);
-    replay(b"checks-own.txt", Lines::Checks);
+fn main(rt: HostRuntime) -> io::Result<()> {
+    replay(&rt, "logs-after-06.txt", Lines::Logs)?;
+    replay(&rt, "calls-01.txt", Lines::Calls)?;
+    replay(&rt, "checks-08.txt", Lines::Checks)?;
+    replay(&rt, "checks-own.txt", Lines::Checks)
 }

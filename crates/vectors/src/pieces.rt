@@ -114,13 +114,7 @@ fn feed_cut(m: Machine, log: &[u8], cuts: Cuts, out: &mut [u8]) -> Outcome {
 fn agrees(m: Machine, log: &[u8], cuts: Cuts, expected: &[u8], code: i32) -> bool {
     let mut out = [0u8; program::MAX_ANSWER_BYTES];
     let outcome = feed_cut(m, log, cuts, &mut out);
-    if !outcome.whole {
-        return false;
-    }
-    if outcome.code != code {
-        return false;
-    }
-    crate::agree(&out, outcome.size, expected, expected.len())
+    outcome.whole && outcome.code == code && crate::agree(&out, outcome.size, expected)
 }
 
 // A spread up to the size of a log.
@@ -188,7 +182,7 @@ fn every_way(m: Machine, log: &[u8], expected: &[u8], code: i32) -> bool {
 fn refused(code: Code, expected: &[u8]) -> bool {
     let mut out = [0u8; ANSWER_BYTES];
     answers::put_answer(&mut out, code, 0);
-    check::same(&out, expected)
+    out.as_slice() == expected
 }
 
 // A log that ends inside a record: its whole records have the answers that they have as a log of their own, and the end is EINVAL. A log that is too
@@ -202,7 +196,7 @@ fn cut_off(m: Machine, input: &[u8], whole: usize) -> bool {
 
 // Whether an input in fragments has the answers that are expected of it whole. A setup byte that is missing or bad is refused before any feed.
 pub(crate) fn as_expected(input: &[u8], expected: &[u8]) -> bool {
-    if input.len() == 0 {
+    if input.is_empty() {
         return refused(Code::Einval, expected);
     }
     let made = machine::from_setup_byte(input[0]);
