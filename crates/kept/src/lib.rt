@@ -1,4 +1,3 @@
 // Theorem: every step on a well-formed machine leaves a well-formed machine. There is no code in this crate.
 
 #![tactic(auto)]
-

@@ -43,11 +43,7 @@ pub fn hubcrackle_spin_lock_compute_owner(
 }
 
 // The thread and the CPU in an owner word: 8 bytes and 1, all zero for a free lock.
-pub fn hubcrackle_spin_lock_decode_owner(
-    thread_cpu: u64,
-    wide: u32,
-    out: &mut [u8],
-) -> i32
+pub fn hubcrackle_spin_lock_decode_owner(thread_cpu: u64, wide: u32, out: &mut [u8]) -> i32
     ensures code { result ≡ call_code (decode_owner thread_cpu wide) (length out.old) }
     ensures room { out.new ≡ call_room (decode_owner thread_cpu wide) out.old }
 {

@@ -122,7 +122,15 @@ pub extern "C" fn hubcrackle_compute_ipi_mask(
     ensures code { result ≡ call_code (ipi_mask current_cpu target_prio target_cpu_mask cpus.now num_cpus max_cpus) (length out.old) }
     ensures room { out.new ≡ call_room (ipi_mask current_cpu target_prio target_cpu_mask cpus.now num_cpus max_cpus) out.old }
 {
-    kernel::hubcrackle_compute_ipi_mask(current_cpu, target_prio, target_cpu_mask, cpus, num_cpus, max_cpus, out)
+    kernel::hubcrackle_compute_ipi_mask(
+        current_cpu,
+        target_prio,
+        target_cpu_mask,
+        cpus,
+        num_cpus,
+        max_cpus,
+        out,
+    )
 }
 
 // Whether a mask can be one that was computed for this CPU: 1 byte.

@@ -32,12 +32,7 @@ pub fn hubcrackle_start(setup: u8, form: &mut [u8]) -> i32
 }
 
 // A fragment: the answers of the records that it completes, 8 bytes each, and how many there are.
-pub fn hubcrackle_feed(
-    form: &mut [u8],
-    fragment: &[u8],
-    out: &mut [u8],
-    records: &mut u32,
-) -> i32
+pub fn hubcrackle_feed(form: &mut [u8], fragment: &[u8], out: &mut [u8], records: &mut u32) -> i32
     ensures code { result ≡ fed_code form.old fragment.now (length out.old) }
     ensures form { form.new ≡ form_after form.old fragment.now (length out.old) }
     ensures back { form_of form.new ≡ fed_form form.old fragment.now (length out.old) }

@@ -2,4 +2,3 @@
 // bytes and the answer bytes alone. There is no code in this crate.
 
 #![tactic(auto)]
-

@@ -2,4 +2,3 @@
 // after a log. There is no code here: the runner has it.
 
 #![tactic(auto)]
-

@@ -2,4 +2,3 @@
 // code in this crate.
 
 #![tactic(auto)]
-

@@ -2,4 +2,3 @@
 // tag's width. There is no rule of document 01 in this crate and no code; the crates above cite its laws.
 
 #![tactic(auto)]
-

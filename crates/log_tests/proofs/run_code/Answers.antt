@@ -15,8 +15,8 @@ returns-then-size-ne0 c = not_whole _ _ _ (c.if-not-formed.false) c.if-size-gt-M
 
 pub returns-then-room-size : goal.returns-then-room-size
 returns-then-room-size c =
-     no_room _ _ _ (c.if-not-formed.false) c.if-size-gt-MAX_LOG_BYTES.false c.if-size-ne0.false c.if-room-size.true
+    no_room _ _ _ (c.if-not-formed.false) c.if-size-gt-MAX_LOG_BYTES.false c.if-size-ne0.false c.if-room-size.true
 
 pub returns : goal.returns
 returns c =
-     runs _ _ _ (c.if-not-formed.false) c.if-size-gt-MAX_LOG_BYTES.false c.if-size-ne0.false c.if-room-size.false
+    runs _ _ _ (c.if-not-formed.false) c.if-size-gt-MAX_LOG_BYTES.false c.if-size-ne0.false c.if-room-size.false

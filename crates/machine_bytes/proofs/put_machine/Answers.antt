@@ -31,13 +31,13 @@ returns c =
     let m = c.args.m in
     let room = c.args.out.now in
     let told = enough_room m made room _ c.if-out-lt-MACHINE_BYTES.false
-      (machine_stored m made room c.put_setup.ensures.room c.put_cpus.ensures.room c.put_threads.ensures.room c.put_locks.ensures.room)
-      (record {
-        setup = c.put_setup.ensures.back;
-        cpus = c.put_cpus.ensures.back;
-        threads = c.put_threads.ensures.back;
-        locks = c.put_locks.ensures.back;
-      }) in
+    (machine_stored m made room c.put_setup.ensures.room c.put_cpus.ensures.room c.put_threads.ensures.room c.put_locks.ensures.room)
+    (record {
+      setup = c.put_setup.ensures.back;
+      cpus = c.put_cpus.ensures.back;
+      threads = c.put_threads.ensures.back;
+      locks = c.put_locks.ensures.back;
+    }) in
     record {
       code = told.0;
       room = told.1.0;

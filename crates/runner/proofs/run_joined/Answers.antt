@@ -49,7 +49,7 @@ run_records-last-requires-clause-good_setup c =
     let k = joined_passed a.m a.first a.others.now a.out.now (omega arith) c.well_formed-2.ensures
     c.run_code-code.ensures fine in
     others_setup a.m a.first a.others.now a.out.now (omega arith) c.well_formed-2.ensures
-          c.run_code-code.ensures fine c.run_records-begun.ensures.machine
+    c.run_code-code.ensures fine c.run_records-begun.ensures.machine
 
 pub run_records-last-requires-clause-short_log : goal.run_records-last-requires-clause-short_log
 run_records-last-requires-clause-short_log c =

@@ -17,7 +17,7 @@ use Rattle.operations.proofs.Setups.{next_setup}
 use Rattle.operations.proofs.EveryLock.{set_locks}
 use Rattle.operations.proofs.Lengths.{Lengths, state_lengths}
 use Rattle.runner.specs.Run.{last_answer, room_at}
-use Rattle.runner.proofs.Turned.{ renamed, nothing_stored, malformed_ran, cpu_ran, lock_ran, thread_ran, ipi_ran, owner_ran, unwind_ran, unwind_refused_ran, }
+use Rattle.runner.proofs.Turned.{renamed, nothing_stored, malformed_ran, cpu_ran, lock_ran, thread_ran, ipi_ran, owner_ran, unwind_ran, unwind_refused_ran}
 use Rattle.runner.proofs.GivenBack.{partly, freed_next, kept_next, turned as all_given}
 use Rattle.runner.proofs.Records.{next_answer, next_state, next_room}
 use Rattle.runner.proofs.run_records.Goals as goal
@@ -47,11 +47,13 @@ loop-l-preserved c =
     let inside : L2.l < length L.m.locks = omega (arith, all, below) in
     let one = c.names.ensures in
     let freed = freed_next c.args.m.setup r.cpu.0 (set_cpu L.m r.cpu.0 cpu) L2.m L2.l L2.invariant.1 inside in
-    let kept = kept_next c.args.m.setup r.cpu.0 (set_cpu L.m r.cpu.0 cpu) L2.m L2.l L2.invariant.1 inside in
-    (omega (arith, below), elim c.if-names.branch [
-      then-names w ↦ w.m-is ∙ freed (sym one ∙ w.if-names.true)
-    | else-names w ↦ w.m-is ∙ kept (sym one ∙ w.if-names.false)
-    ])
+    let kept = kept_next c.args.m.setup r.cpu.0 (set_cpu L.m r.cpu.0 cpu) L2.m L2.l L2.invariant.1 inside in (
+      omega (arith, below),
+      elim c.if-names.branch [
+        | then-names w ↦ w.m-is ∙ freed (sym one ∙ w.if-names.true)
+        | else-names w ↦ w.m-is ∙ kept (sym one ∙ w.if-names.false)
+      ],
+    )
 
 -- The arms meet: each one's answer and machine are the record's.
 pub loop-i-preserved : goal.loop-i-preserved
@@ -73,39 +75,39 @@ loop-i-preserved c =
     let met = c.match-operation in
     let put = c.put_answer_at in
     let t : Becomes m (record_at log L.i) (answered_says met.answer) met.m = elim met.branch [
-      in-Malformed w ↦ renamed m _ (ap answered_says w.answer-is) w.m-is (malformed_ran m same ok _ r is w.in-Malformed.is)
-    | in-OnCpu+then-is_ok w ↦
+      | in-Malformed w ↦ renamed m _ (ap answered_says w.answer-is) w.m-is (malformed_ran m same ok _ r is w.in-Malformed.is)
+      | in-OnCpu+then-is_ok w ↦
           renamed m _ (ap answered_says w.answer-is) w.m-is
-            (cpu_ran m same ok _ r is w.in-OnCpu.is w.on_cpu-o.result w.on_cpu-o.ensures)
-    | in-OnCpu+else-is_ok w ↦
+          (cpu_ran m same ok _ r is w.in-OnCpu.is w.on_cpu-o.result w.on_cpu-o.ensures)
+      | in-OnCpu+else-is_ok w ↦
           let ran = cpu_ran m same ok _ r is w.in-OnCpu.is w.on_cpu-o.result w.on_cpu-o.ensures in
           renamed m _ (ap answered_says w.answer-is) w.m-is (nothing_stored m _ ran (sym w.is_ok.ensures ∙ w.if-is_ok.false))
-    | in-OnLock+then-is_ok-2 w ↦
+      | in-OnLock+then-is_ok-2 w ↦
           renamed m _ (ap answered_says w.answer-is) w.m-is
-            (lock_ran m same ok _ r is w.in-OnLock.is w.on_lock-o.result w.on_lock-o.ensures)
-    | in-OnLock+else-is_ok-2 w ↦
+          (lock_ran m same ok _ r is w.in-OnLock.is w.on_lock-o.result w.on_lock-o.ensures)
+      | in-OnLock+else-is_ok-2 w ↦
           let ran = lock_ran m same ok _ r is w.in-OnLock.is w.on_lock-o.result w.on_lock-o.ensures in
           renamed m _ (ap answered_says w.answer-is) w.m-is
-            (nothing_stored m _ ran (sym w.is_ok-in-OnLock.ensures ∙ w.if-is_ok-2.false))
-    | in-OnThread w ↦
+          (nothing_stored m _ ran (sym w.is_ok-in-OnLock.ensures ∙ w.if-is_ok-2.false))
+      | in-OnThread w ↦
           renamed m _ (ap answered_says w.answer-is) w.m-is
-            (thread_ran m same ok _ r is w.in-OnThread.is w.on_thread-o.result w.on_thread-o.ensures)
-    | in-Ipi w ↦
+          (thread_ran m same ok _ r is w.in-OnThread.is w.on_thread-o.result w.on_thread-o.ensures)
+      | in-Ipi w ↦
           renamed m _ (ap answered_says w.answer-is) w.m-is
-            (ipi_ran m same ok _ r is w.in-Ipi.is w.ipi-answer.result w.ipi-answer.ensures)
-    | in-Owner w ↦
+          (ipi_ran m same ok _ r is w.in-Ipi.is w.ipi-answer.result w.ipi-answer.ensures)
+      | in-Owner w ↦
           renamed m _ (ap answered_says w.answer-is) w.m-is
-            (owner_ran m same ok _ r is w.in-Owner.is w.owner-answer.result w.owner-answer.ensures)
-    | in-Unwind+then-is_ok-3+else-loop-l-test w ↦
+          (owner_ran m same ok _ r is w.in-Owner.is w.owner-answer.result w.owner-answer.ensures)
+      | in-Unwind+then-is_ok-3+else-loop-l-test w ↦
           let all : length m.locks ≡ w.loop-l.l = omega (arith, lengths.locks, w.loop-l.invariant.0, w.loop-l-test.false) in
           renamed m _ (ap answered_says w.answer-is) (w.m-is ∙ w.loop-l.invariant.1)
-            (unwind_ran m same ok _ r is w.in-Unwind.is lengths w.unwind-o.result w.unwind-o.ensures
-              (sym w.is_ok-in-Unwind.ensures ∙ w.if-is_ok-3.true) _
-              (all_given c.args.m.setup r.cpu.0 m.locks w.loop-l.l all))
-    | in-Unwind+else-is_ok-3 w ↦
+          (unwind_ran m same ok _ r is w.in-Unwind.is lengths w.unwind-o.result w.unwind-o.ensures
+          (sym w.is_ok-in-Unwind.ensures ∙ w.if-is_ok-3.true) _
+          (all_given c.args.m.setup r.cpu.0 m.locks w.loop-l.l all))
+      | in-Unwind+else-is_ok-3 w ↦
           renamed m _ (ap answered_says w.answer-is) w.m-is
-            (unwind_refused_ran m same ok _ r is w.in-Unwind.is lengths w.unwind-o.result w.unwind-o.ensures
-              (sym w.is_ok-in-Unwind.ensures ∙ w.if-is_ok-3.false))
+          (unwind_refused_ran m same ok _ r is w.in-Unwind.is lengths w.unwind-o.result w.unwind-o.ensures
+          (sym w.is_ok-in-Unwind.ensures ∙ w.if-is_ok-3.false))
     ] in (
       omega (arith, c.loop-i-test.true),
       L.invariant.1,

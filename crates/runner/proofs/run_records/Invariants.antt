@@ -17,7 +17,7 @@ use Rattle.operations.proofs.Setups.{next_setup}
 use Rattle.operations.proofs.EveryLock.{set_locks}
 use Rattle.operations.proofs.Lengths.{Lengths, state_lengths}
 use Rattle.runner.specs.Run.{last_answer, room_at}
-use Rattle.runner.proofs.Turned.{ renamed, nothing_stored, malformed_ran, cpu_ran, lock_ran, thread_ran, ipi_ran, owner_ran, unwind_ran, unwind_refused_ran, }
+use Rattle.runner.proofs.Turned.{renamed, nothing_stored, malformed_ran, cpu_ran, lock_ran, thread_ran, ipi_ran, owner_ran, unwind_ran, unwind_refused_ran}
 use Rattle.runner.proofs.GivenBack.{partly, freed_next, kept_next, turned as all-given}
 use Rattle.runner.proofs.Records.{next_answer, next_state, next_room}
 use Rattle.runner.proofs.run_records.Given as goal

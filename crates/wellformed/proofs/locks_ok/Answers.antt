@@ -23,11 +23,11 @@ pub loop-l-preserved : goal.loop-l-preserved
 loop-l-preserved c =
     let m = c.args.m in
     let summed : Summed m c.if-k-ne0.sums (c.loop-l.l + 1) = elim c.if-k-ne0.branch [
-      then-k-ne0 w ↦
+      | then-k-ne0 w ↦
           let below : w.cpu_of-c.result.0 < cpu_slots = rw w.cpu_of-c.ensures (named_in_slots m.setup _) in
           rw w.sums-is
-            (turn_named m _ _ _ _ c.loop-l.invariant.2 (sym w.cpu_of-c.ensures) below w.depth_for.ensures (omega arith))
-    | else-k-ne0 w ↦ rw w.sums-is (turn_free m _ _ c.loop-l.invariant.2 w.if-k-ne0.false)
+          (turn_named m _ _ _ _ c.loop-l.invariant.2 (sym w.cpu_of-c.ensures) below w.depth_for.ensures (omega arith))
+      | else-k-ne0 w ↦ rw w.sums-is (turn_free m _ _ c.loop-l.invariant.2 w.if-k-ne0.false)
     ] in
     (search rules, turn_one _ _ c.loop-l.invariant.1 c.lock_ok-ok.ensures, summed)
 

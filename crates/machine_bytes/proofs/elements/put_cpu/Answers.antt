@@ -12,7 +12,7 @@ returns-clause-room c =
     let fits : SFits w32 a.cpu.run.priority = record { sfits = c.struct_told-1.given.1.1.0.1 } in
     let same = to_z-of_z w32 a.cpu.run.priority fits in
     cpu_stored a.cpu a.out.now a.at c.tag_of_current-tag.result c.tag_of_current-tag.ensures c.put_yes.ensures
-          c.put_tag.ensures.room (rw same at c.put_signed.ensures.room) c.put_four.ensures.room
+    c.put_tag.ensures.room (rw same at c.put_signed.ensures.room) c.put_four.ensures.room
 
 pub returns-clause-back : goal.returns-clause-back
 returns-clause-back c =
@@ -20,4 +20,4 @@ returns-clause-back c =
     let fits : SFits w32 a.cpu.run.priority = record { sfits = c.struct_told-1.given.1.1.0.1 } in
     let same = to_z-of_z w32 a.cpu.run.priority fits in
     cpu_back a.cpu (rw c.tag_of_current-tag.ensures at c.put_tag.ensures.back) (rw same at c.put_signed.ensures.back)
-          c.put_four.ensures.back
+    c.put_four.ensures.back

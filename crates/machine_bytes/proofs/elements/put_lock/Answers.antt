@@ -7,7 +7,7 @@ pub returns-clause-room : goal.returns-clause-room
 returns-clause-room c =
     let a = c.args in
     lock_stored a.lock a.out.now a.at c.tag_of_owner-tag.result c.tag_of_owner-tag.ensures c.put_tag.ensures.room
-          c.put_four.ensures.room c.put_yes.ensures c.put_eight.ensures.room
+    c.put_four.ensures.room c.put_yes.ensures c.put_eight.ensures.room
 
 pub returns-clause-back : goal.returns-clause-back
 returns-clause-back c =

@@ -19,4 +19,4 @@ returns-clause-back c =
     let z = c.args.number in
     let e : b.result ≡ from_signed 31 z = b.ensures ∙ ap (from_signed 31) (to_z-of_z w32 z c.ranges.number) in
     ap (λ (n : ℕ). to_signed 31 (from_high_first (four_bytes n))) (sym e) ∙ ap (to_signed 31) (p.ensures.back ∙ e)
-          ∙ to_from_signed 31 z (signed_fits z c.ranges.number)
+    ∙ to_from_signed 31 z (signed_fits z c.ranges.number)

@@ -10,4 +10,4 @@ returns-clause-room c =
     let p = c.put_four in
     let a = c.args in
     behind a.out.now a.at (yes_bytes a.tag.present) (four_bytes a.tag.number) 1 (length_yes a.tag.present)
-          c.put_yes.ensures p.ensures.room
+    c.put_yes.ensures p.ensures.room
