@@ -81,9 +81,9 @@ fn block_size(left: usize) -> usize
 
 // The lowest record of a log whose claimed answer is wrong; the number of records where there is none.
 fn lowest_wrong(mut m: Machine, log: &[u8], claim: &[u8]) -> usize
-    requires m_value { well_formed m ≡ true }
-    requires log_len_bound { length log.now ≤ 24576 }
-    requires claim_len { length claim.now ≡ length log.now / 12 * 8 }
+    requires formed { well_formed m ≡ true }
+    requires short_log { length log.now ≤ 24576 }
+    requires claim_fits { length claim.now ≡ length log.now / 12 * 8 }
     ensures { result ≡ lowest_wrong m log.now claim.now }
 {
     let count = log.len() / RECORD_BYTES;

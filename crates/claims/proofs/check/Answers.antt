@@ -24,8 +24,8 @@ returns-then-not-is_ok-2 c =
     let bad = sym c.is_ok-2.ensures ∙ c.if-not-is_ok-2.true in
     is_refused c.args.setup log claim (log_code c.args.setup log claim a.result a.ensures good z.ensures) bad
 
-pub lowest_wrong-wrong-requires-clause-m_value : goal.lowest_wrong-wrong-requires-clause-m_value
-lowest_wrong-wrong-requires-clause-m_value c =
+pub lowest_wrong-wrong-requires-clause-formed : goal.lowest_wrong-wrong-requires-clause-formed
+lowest_wrong-wrong-requires-clause-formed c =
     let z = c.size_code-code in
     let a = c.from_setup_byte-made in
     let log = c.args.log.now in
@@ -34,8 +34,8 @@ lowest_wrong-wrong-requires-clause-m_value c =
     let formed = made_formed c.args.setup log claim a.result a.ensures in
     formed
 
-pub lowest_wrong-wrong-requires-clause-log_len_bound : goal.lowest_wrong-wrong-requires-clause-log_len_bound
-lowest_wrong-wrong-requires-clause-log_len_bound c =
+pub lowest_wrong-wrong-requires-clause-short_log : goal.lowest_wrong-wrong-requires-clause-short_log
+lowest_wrong-wrong-requires-clause-short_log c =
     let z = c.size_code-code in
     let a = c.from_setup_byte-made in
     let log = c.args.log.now in
