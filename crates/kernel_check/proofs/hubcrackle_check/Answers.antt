@@ -21,25 +21,21 @@ returns-in-Right-clause-record c =
 pub returns-in-Differs-clause-result : goal.returns-in-Differs-clause-result
 unfolding result_of record_after
 returns-in-Differs-clause-result c =
-    let is = c.verdict-1.given in
-    let told = tells c.check-verdict.ensures (Verdict.Differs is.0.0) is.1 c.args.«record».now in told.0
+    let told = tells c.check-verdict.ensures (Verdict.Differs c.in-Differs.k) c.in-Differs.is c.args.«record».now in told.0
 
 pub returns-in-Differs-clause-record : goal.returns-in-Differs-clause-record
 unfolding result_of record_after
 returns-in-Differs-clause-record c =
-    let is = c.verdict-1.given in
-    let told = tells c.check-verdict.ensures (Verdict.Differs is.0.0) is.1 c.args.«record».now in told.1
+    let told = tells c.check-verdict.ensures (Verdict.Differs c.in-Differs.k) c.in-Differs.is c.args.«record».now in told.1
 
 pub returns-in-Refused-clause-result : goal.returns-in-Refused-clause-result
 unfolding result_of record_after
 returns-in-Refused-clause-result c =
-    let is = c.verdict-in-Refused-1.given in
-    let k = tells c.check-verdict.ensures (Verdict.Refused is.0.0) is.1 c.args.«record».now in
+    let k = tells c.check-verdict.ensures (Verdict.Refused c.in-Refused.code) c.in-Refused.is c.args.«record».now in
     to_z-of_z w32 c.number.result (record { sfits = c.number.type_inv }) ∙ c.number.ensures ∙ k.0
 
 pub returns-in-Refused-clause-record : goal.returns-in-Refused-clause-record
 unfolding result_of record_after
 returns-in-Refused-clause-record c =
-    let is = c.verdict-in-Refused-1.given in
-    let k = tells c.check-verdict.ensures (Verdict.Refused is.0.0) is.1 c.args.«record».now in
+    let k = tells c.check-verdict.ensures (Verdict.Refused c.in-Refused.code) c.in-Refused.is c.args.«record».now in
     k.1
