@@ -52,4 +52,3 @@ returns-clause-room c =
     ran.result _ c.copy_arrived.ensures ran.ensures.machine ran.ensures.room in
     k.answers
 
--- FLAGS s.well_formed.0
