@@ -21,4 +21,3 @@ returns c =
     let mine = sym c.is_current.ensures ∙ c.if-not-is_current.false in
     let same = to_z-of_z w32 c.args.thread.priority (record { sfits = c.struct_told-1.given.1.0.1 }) in
     simp (mine, eq-eqb _ _ c.if-hold-ne0.false, c.idle_run.ensures, same)
-

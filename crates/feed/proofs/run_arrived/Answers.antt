@@ -51,4 +51,3 @@ returns-clause-room c =
     let k = runs a.f a.fragment.now a.out.now (eleven a.f _ c.well_formed.0) some
     ran.result _ c.copy_arrived.ensures ran.ensures.machine ran.ensures.room in
     k.answers
-
