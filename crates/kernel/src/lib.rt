@@ -1,6 +1,6 @@
-// The calls of the C kernel: numbers and lent bytes in, a code out. include/hubcrackle.h declares them.
+// The calls of the C kernel: numbers and lent bytes in, a code out. The crate kernel_c exports them, and include/hubcrackle.h declares them.
 //
-// New here. Document 01, "What must change shape": the owner-word, mask, pin and interrupt rules and the runner, as exported functions. Each
+// New here. Document 01, "What must change shape": the owner-word, mask, pin and interrupt rules and the runner, as functions for C. Each
 // returns its code, and on OK its value stands over the front of `out`, high byte first. A caller can rely on these: ENOMEM is tested last, a
 // refusal changes no lent byte, and bytes past the value stay. Document 02, request 4: `wide` is 0 for a tag of two bits and 1 for one of four.
 

@@ -73,8 +73,7 @@ pub extern "C" fn hubcrackle_spin_unlock_valid(
     kernel::hubcrackle_spin_unlock_valid(thread_cpu, current_cpu_id, current_thread, wide, out)
 }
 
-// The mask with bits enabled and then disabled: 4 bytes. A refusal does not write the current mask. The two codes that the rule gives are told
-// apart by one test: a jump by the code costs more than the rule (docs/PERFORMANCE.md).
+// The mask with bits enabled and then disabled: 4 bytes. A refusal does not write the current mask.
 #[unsafe(no_mangle)]
 pub extern "C" fn hubcrackle_cpu_mask_mod(
     current_mask: u32,

@@ -1,6 +1,6 @@
-// The call of the C kernel that judges claimed answers to a log. include/hubcrackle.h declares it.
+// The call of the C kernel that judges claimed answers to a log. The crate kernel_check_c exports it, and include/hubcrackle.h declares it.
 //
-// New here. Document 02, request 8. It is an archive of its own, as the calls on a form are: with a second caller of the loop in their archives the
+// New here. Document 02, request 8. Its archive is one of its own, as the calls on a form are: with a second caller of the loop in their archives the
 // other calls on a log would take more time. A caller can rely on these: the result is OK only if every byte of the claim is right, and the number
 // changes only where a record is named.
 

@@ -1,6 +1,7 @@
-// The calls of the C kernel that take a log as it arrives, on a form in lent bytes. include/hubcrackle.h declares them.
+// The calls of the C kernel that take a log as it arrives, on a form in lent bytes. The crate kernel_form_c exports them, and
+// include/hubcrackle.h declares them.
 //
-// New here. Document 02, request 7. They are an archive of their own: the loop and the test of well-formedness stand in each archive once, and
+// New here. Document 02, request 7. Their archive is one of its own: the loop and the test of well-formedness stand in each archive once, and
 // with a second caller there the compiler would no longer put them into hubcrackle_run, which would take more time and stack. A caller can rely on
 // these: a refusal changes no lent byte, and the bytes of a form read as the form that the call by value gives.
 
