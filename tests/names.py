@@ -20,7 +20,7 @@ DOCUMENTS = ["README.md", "docs/RULES.md", "docs/CONTRACTS.md", "docs/EXCEPTIONS
 # Backticked words that nothing here declares, each with the reason. One that no document has any more is reported too.
 FOREIGN = {
     "requires": "a word of the language", "ensures": "a word of the language", "true": "a word of the language",
-    "result": "what a call returns", "now": "what lent bytes are", "old": "what they were when the call began", "new": "and when it returns",
+    "result": "what a call returns", "now": "what lent bytes are", "old": "what they are when a call begins", "new": "when it returns",
     "Option": "a library type of upstream", "Result": "a library type of upstream",
     "self": "a word of the language", "mut": "a word of the language", "inv": "upstream's", ".antt": "the ending of the files of definitions and proofs",
     "rt": "the kit's command", "od": "a command of the system", "xargs": "a command of the system",
@@ -123,7 +123,7 @@ ARCHIVES = {name for line in read("bench/steps") if line.startswith("archives='"
 
 
 def source_of(text):
-    """The root file of the crate that a program or an archive is made of: `rt run` makes crates/NAME/out/NAME, `rt lib` crates/NAME/out/libNAME.a,
+    """The root file of the crate of a program or an archive: `rt run` makes crates/NAME/out/NAME, and `rt lib` crates/NAME/out/libNAME.a,
     which tools/archives copies to target/staticlib without the ending _c, if NAME is one of its `archives`."""
     program = re.fullmatch(r"crates/(\w+)/out/\1", text)
     library = re.fullmatch(r"crates/(\w+)/out/lib\1\.a", text)
