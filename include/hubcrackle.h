@@ -1,15 +1,14 @@
 /*
  * Hubcrackle: spinlock, affinity and interrupt rules for a C kernel.
  *
- * Link target/staticlib/libkernel.a, which `rt staticlib kernel` writes for x86-64; for hubcrackle_start, hubcrackle_feed and hubcrackle_finish
- * target/staticlib/libkernel_form.a too, which `rt staticlib kernel_form` writes; and for hubcrackle_check target/staticlib/libkernel_check.a, which
- * `rt staticlib kernel_check` writes. None of the three needs another. The functions allocate nothing, keep no state between calls and call nothing
- * but memcpy, and hubcrackle_check memset, so any number of CPUs may be in them at once.
+ * Link target/staticlib/libkernel.a; for hubcrackle_start, hubcrackle_feed and hubcrackle_finish target/staticlib/libkernel_form.a too; and for
+ * hubcrackle_check target/staticlib/libkernel_check.a. tools/archives proves and writes the three for x86-64. None of them needs another. The
+ * functions allocate nothing, keep no state between calls and call nothing but memcpy and memset, so any number of CPUs may be in them at once.
  *
- * The archives are plain System V x86-64 code: they may use SSE registers and the 128 bytes below the stack pointer. Call them where both are
- * allowed. As built now, hubcrackle_run takes about 10,800 bytes of stack, hubcrackle_feed 35,500, hubcrackle_start 11,900, hubcrackle_finish 11,700
- * and hubcrackle_check 30,200, and every other function less than 512. Their machine, with sixteen CPU slots in either width, has 3,912 bytes,
- * and is held by value.
+ * The archives are plain System V code for every x86-64 processor: they may use SSE registers and the 128 bytes below the stack pointer. Call them
+ * where both are allowed. As built now, hubcrackle_run takes about 11,600 bytes of stack, hubcrackle_feed 46,600, hubcrackle_start 22,700,
+ * hubcrackle_finish 15,000 and hubcrackle_check 26,900, and every other function less than 512. Their machine, with sixteen CPU slots in either
+ * width, has 3,912 bytes, and is held by value. How long a call takes, where it is said below, was measured with an older kit's archives.
  *
  * Every function works in the same way.
  *
@@ -24,8 +23,8 @@
  * The bytes belong to the caller, who lends them for the time of the call; no pointer is kept. A pointer is never NULL, also where its length
  * is 0, and points to at least as many bytes as its length says. `out` does not overlap what the same call reads.
  *
- * That each function returns the code and leaves the bytes that its rule gives, for every argument, is proved: crates/kernel, crates/kernel_form and
- * crates/kernel_check have the contracts.
+ * That each function returns the code and leaves the bytes that its rule gives, for every argument, is proved: crates/kernel_c, crates/kernel_form_c
+ * and crates/kernel_check_c have the contracts.
  */
 #ifndef HUBCRACKLE_H
 #define HUBCRACKLE_H
@@ -232,7 +231,7 @@ int32_t hubcrackle_finish(const uint8_t *form, size_t form_len);
  * A caller accepts a claim on HUBCRACKLE_OK and on nothing else. `record` is written with HUBCRACKLE_DIFFERS alone: on OK and on every refusal it
  * stays as it was. It does not overlap `log` or `claim`.
  *
- * What it costs: its memory does not grow with the log. The answers are compared 1,024 at a time, in 30,200 bytes of stack however long the log is.
+ * What it costs: its memory does not grow with the log. The answers are compared 1,024 at a time, in 26,900 bytes of stack however long the log is.
  * A right claim to a long log takes about 1.1 times as long as hubcrackle_run of that log, and to a short one half a microsecond more. A wrong one
  * takes no longer: at most 1,023 records are run behind the one that differs. */
 int32_t hubcrackle_check(uint8_t setup, const uint8_t *log, size_t log_len, const uint8_t *claim, size_t claim_len, uint32_t *record);

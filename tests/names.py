@@ -20,12 +20,12 @@ DOCUMENTS = ["README.md", "docs/RULES.md", "docs/CONTRACTS.md", "docs/EXCEPTIONS
 # Backticked words that nothing here declares, each with the reason. One that no document has any more is reported too.
 FOREIGN = {
     "requires": "a word of the language", "ensures": "a word of the language", "true": "a word of the language",
-    "now": "what a reference holds", "entry": "when a function begins", "exit": "when it ends",
+    "result": "what a call returns", "now": "what lent bytes are", "old": "what they are when a call begins", "new": "when it returns",
     "Option": "a library type of upstream", "Result": "a library type of upstream",
     "self": "a word of the language", "mut": "a word of the language", "inv": "upstream's", ".antt": "the ending of the files of definitions and proofs",
     "rt": "the kit's command", "od": "a command of the system", "xargs": "a command of the system",
     "N passed, 0 failed": "the last line of the kit's gate",
-    "says r ≡ rule args": "the form of a contract, with names that stand for any",
+    "says result ≡ rule args": "the form of a contract, with names that stand for any",
 }
 PATH = re.compile(r"\.?[\w*.-]*/[\w*./-]*|[\w-]+\.(?:antt|rt|rs|py|h|md|txt|edit)")
 LINK = re.compile(r"\[((?:[^\[\]`]|`[^`]*`)*)\]\(([^()\s]+)\)")
@@ -38,14 +38,15 @@ def read(path):
 
 
 def files(pattern):
-    """The files and folders of a pattern, as paths from the top."""
-    return sorted(os.path.relpath(path, ROOT) for path in glob.glob(os.path.join(ROOT, pattern), recursive=True))
+    """The files and folders of a pattern, as paths from the top. What a command makes, in the folder `out` of a crate, is none of them."""
+    found = (os.path.relpath(path, ROOT) for path in glob.glob(os.path.join(ROOT, pattern), recursive=True))
+    return sorted(path for path in found if not re.match(r"crates/\w+/out(?:/|$)", path))
 
 
 def antt_names(lines):
-    """What a `where` declares for one proof, and the answers that a function's proof gives to the check's questions, are no names."""
+    """What a `where` declares for one proof, and the answers to the goals of a function's proof, are no names. Its invariants and measures are."""
     names, local, block = set(), None, None
-    for line in lines:
+    for line, below in zip(lines, lines[1:] + [""]):
         code = re.sub(r"(^|\s)--.*", "", line).rstrip()
         word, indent = code.strip(), len(code) - len(code.lstrip())
         if not word or local is not None and indent > local:
@@ -62,8 +63,9 @@ def antt_names(lines):
             for name in made[1].split() if made else []:
                 names |= {name, f"{block[0]}.{name}"}
         else:
-            made = re.match(r"(?:(?:pub|abbrev|unfoldable) )*([^\s:(){}]+) :(?: (?!tie\.Need-)|$)", word)
-            if made:
+            made = re.match(r"(?:(?:pub|abbrev|unfoldable) )*([^\s:(){}]+) :(?: |$)", word)
+            said = made and (word[made.end():] or below.strip())
+            if made and not re.match(r"goal\.(?!invariant-|decreases-)", said):
                 names.add(f"{block[0]}.{made[1]}" if block else made[1])
     return names
 
@@ -74,10 +76,10 @@ def rust_names(lines):
     for line in lines:
         code = line.split("//")[0].rstrip()
         names |= {f"{name}:" for name in re.findall(r"\b([a-z]\w*): ", code)}
-        opened = re.match(r"(?:pub(?:\(\w+\))? )?(impl|struct|enum|mod) (\w+)", code)
+        opened = re.match(r"(?:pub(?:\(\w+\))? )?(?:(impl)(?:<.*?>)? (?:[^{]* for )?|(?:struct|enum|mod|trait) )(\w+)", code)
         if opened:
             block = opened[2] if code.endswith("{") else None
-            names |= {opened[2]} if opened[1] != "impl" else set()
+            names |= {opened[2]} if not opened[1] else set()
         elif code == "}":
             block = None
         made = re.match(r'\s*(?:pub(?:\(\w+\))? )?(?:extern "C" )?(?:fn|const) (\w+)\s*[(:<]', code)
@@ -115,13 +117,27 @@ def declared():
 
 WHERE = declared()
 CRATES = {path.split(os.sep)[1] for path in files("crates/*/src")}
+# The crates that are static libraries, and those of them that tools/archives copies.
+STATIC = {line.split()[0] for line in read("crates.txt") if re.match(r"\w+ staticlib\b", line)}
+ARCHIVES = {name for line in read("bench/steps") if line.startswith("archives='") for name in line.split("'")[1].split() if f"{name}_c" in STATIC}
+
+
+def source_of(text):
+    """The root file of the crate of a program or an archive: `rt run` makes crates/NAME/out/NAME, and `rt lib` crates/NAME/out/libNAME.a,
+    which tools/archives copies to target/staticlib without the ending _c, if NAME is one of its `archives`."""
+    program = re.fullmatch(r"crates/(\w+)/out/\1", text)
+    library = re.fullmatch(r"crates/(\w+)/out/lib\1\.a", text)
+    copy = re.fullmatch(r"target/staticlib/lib(\w+)\.a", text)
+    if copy and copy[1] in ARCHIVES:
+        return f"crates/{copy[1]}_c/src/lib.rt"
+    if library and library[1] in STATIC:
+        return f"crates/{library[1]}/src/lib.rt"
+    return program and f"crates/{program[1]}/src/main.rt"
 
 
 def find_paths(text, document):
     """The files of a path that starts at the top, at the document, in crates/ or in a crate. NAME and * stand for any; CRATE/EDIT is an edit."""
-    built = re.fullmatch(r"target/(?:bin/(\w+)|log/(\w+)\.stdout)", text)
-    if built:
-        text = f"crates/{built[1] or built[2]}/src/main.rt"
+    text = source_of(text) or text
     shape = re.sub(r"\bNAME\b", "*", text)
     tries = [shape, os.path.join(os.path.dirname(document), shape), f"crates/{shape}", f"crates/*/{shape}", f"crates/{shape}.antt", f"crates/{shape}.rt"]
     if "/" not in shape:
@@ -144,10 +160,13 @@ def has(name, home=None):
 def missing(text, document, home):
     """What of a backticked text is not declared: a command's crates and files, a path, a type's fields, the words of a formula, or a name."""
     if text.startswith("rt "):
-        crates = re.findall(r"\brt \w+ (\w+)", text)
+        crates = re.findall(r"\brt [\w-]+ ([A-Za-z]\w*)", text)
         return [word for word in crates if word not in CRATES] + [word for word in text.split() if "/" in word and not find_paths(word, document)]
     if PATH.fullmatch(text):
         return [] if find_paths(text, document) else [text]
+    lent = re.fullmatch(r"(\w+)\.(?:now|old|new)", text)
+    if lent:
+        return [] if f"{lent[1]}:" in WHERE else [text]
     fields = re.fullmatch(r"(\w+) \{ ([\w, ]+) \}", text)
     if fields:
         words = [fields[1]] + [f"{fields[1]}.{field}" for field in fields[2].split(", ")]

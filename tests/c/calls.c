@@ -1274,16 +1274,25 @@ static void judge(void)
         blame(__LINE__, "a right claim on another stack");
 }
 
-/* Calls it on that stack. The archives are x86-64 code, and so is this. */
+/* Calls it on that stack, on x86-64 and on Arm, which the archives are for. */
 static void judge_there(void)
 {
     void (*const call)(void) = judge;
 
+#if defined(__aarch64__)
+    __asm__ volatile("mov x19, sp\n\tmov sp, %0\n\tblr %1\n\tmov sp, x19"
+                     :
+                     : "r"(stack + STACK), "r"(call)
+                     : "x0", "x1", "x2", "x3", "x4", "x5", "x6", "x7", "x8", "x9", "x10", "x11", "x12", "x13", "x14", "x15", "x16", "x17", "x18",
+                       "x19", "x30", "v0", "v1", "v2", "v3", "v4", "v5", "v6", "v7", "v8", "v9", "v10", "v11", "v12", "v13", "v14", "v15", "v16", "v17",
+                       "v18", "v19", "v20", "v21", "v22", "v23", "v24", "v25", "v26", "v27", "v28", "v29", "v30", "v31", "memory", "cc");
+#else
     __asm__ volatile("movq %%rsp, %%rbx\n\tmovq %0, %%rsp\n\tcall *%1\n\tmovq %%rbx, %%rsp"
                      :
                      : "r"(stack + STACK), "r"(call)
                      : "rax", "rbx", "rcx", "rdx", "rsi", "rdi", "r8", "r9", "r10", "r11", "xmm0", "xmm1", "xmm2", "xmm3", "xmm4", "xmm5", "xmm6",
                        "xmm7", "xmm8", "xmm9", "xmm10", "xmm11", "xmm12", "xmm13", "xmm14", "xmm15", "memory", "cc");
+#endif
 }
 
 /* How many bytes of stack the right claim to a front of claim_log takes, down to the lowest byte that changes, whatever it was; the few of `judge`
