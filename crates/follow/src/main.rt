@@ -26,12 +26,13 @@ struct Turn {
     more: bool,
 }
 
-// Writes the first bytes of a buffer.
-fn show<W: Write>(output: &mut W, out: &[u8], size: usize) -> io::Result<()> {
+// Writes the first bytes of a buffer, and says whether it has so many.
+fn show<W: Write>(output: &mut W, out: &[u8], size: usize) -> io::Result<bool> {
     if size <= out.len() {
         output.write_all(&out[..size])?;
+        return Ok(true);
     }
-    Ok(())
+    Ok(false)
 }
 
 // Writes one answer, for an input that is refused.
@@ -45,13 +46,13 @@ fn refuse<W: Write>(output: &mut W, code: Code) -> io::Result<()> {
 fn answer<W: Write>(output: &mut W, f: Form, fragment: &[u8]) -> io::Result<Turn> {
     let mut out = [0u8; MAX_ANSWER_BYTES];
     let fed = feed::feed(f, fragment, &mut out);
-    show(output, &out, fed.records as usize * ANSWER_BYTES)?;
+    let shown = show(output, &out, fed.records as usize * ANSWER_BYTES)?;
     let code = fed.code;
     let form = fed.form;
     Ok(Turn {
         code,
         form,
-        more: error::is_ok(code),
+        more: shown && error::is_ok(code),
     })
 }
 

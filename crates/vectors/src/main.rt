@@ -8,12 +8,15 @@ mod pieces;
 
 ghost use Rattle.std.specs.Prelude.{◌+◌, ◌*◌, ◌<◌, ◌≤◌, length};
 
-use std::fs;
-use std::io::{self, Write};
+use std::fs::File;
+use std::io::{self, Read, Write};
 use std::rt::Files;
 
 // The room for an input ends one byte behind the longest one.
 const INPUT_ROOM_BYTES: usize = program::MAX_INPUT_BYTES + 1;
+
+// As much of a stored file as is read.
+const MAX_FILE_BYTES: usize = 300000;
 
 // What the lines of a file are: inputs of the program, calls, or claims with the verdict on them.
 #[derive(Clone, Copy)]
@@ -234,12 +237,30 @@ fn cases(rt: &impl Print, text: &[u8], lines: Lines) -> io::Result<()> {
     Ok(())
 }
 
-// Every line of a stored file. One that can't be read is named on standard error, and the others are replayed.
-fn replay(rt: &(impl Files + Print + Eprint + Alloc), path: &str, lines: Lines) -> io::Result<()> {
-    match fs::read(rt, path) {
-        Ok(text) => cases(rt, &text, lines),
-        Err(error) => eprintln!(rt; "{path}: {error}"),
+// Reads until the room is full or the input ends, and says how many bytes stand over the front of the room. A read that fails counts as the end.
+fn read_input<R: Read>(input: &mut R, room: &mut [u8]) -> usize
+    ensures { result ≤ length room.new }
+{
+    let mut size = 0;
+    while size < room.len() {
+        let more = input.read(&mut room[size..]).unwrap_or(0);
+        if more == 0 {
+            break;
+        }
+        size += more;
     }
+    size
+}
+
+// Every line of a stored file. One that can't be opened is named on standard error, and the others are replayed.
+fn replay(rt: &(impl Files + Print + Eprint), path: &str, lines: Lines) -> io::Result<()> {
+    let mut file = match File::open(rt, path) {
+        Ok(file) => file,
+        Err(error) => return eprintln!(rt; "{path}: {error}"),
+    };
+    let mut text = [0u8; MAX_FILE_BYTES];
+    let size = read_input(&mut file, &mut text);
+    cases(rt, &text[..size], lines)
 }
 
 fn main(rt: HostRuntime) -> io::Result<()> {
