@@ -1,5 +1,5 @@
 -- Counts that do not fit are refused. The loop sets out with the CPUs that can match, and `Walked` is kept by each turn. The measure is how many
--- of them are ahead: a turn takes exactly one off (`one_fewer`) and the loop ends at none, so it has as many turns as there are CPUs that can
+-- of them are ahead: a turn takes exactly one off (`cleared_ones`) and the loop ends at none, so it has as many turns as there are CPUs that can
 -- match. Assumes nothing.
 use Prim.Native.Nat.{◌+◌, ◌≤◌, ◌<◌}
 use native.Mathlib.Omega.{arith}
