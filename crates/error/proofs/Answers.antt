@@ -2,8 +2,11 @@
 use mathlib.Core.Path.{◌≡◌, sym, ap}
 use Prim.Native.Nat.{ℕ}
 use lib.IntN.{negsuc, pos-ne-negsuc}
-use Rattle.error.specs.Codes.{OK}
-use Rattle.error.specs.Answer.{Answer, answer}
+use Rattle.std.specs.Prelude.{Result, Ok, Err}
+use Rattle.std.specs.Result.{IsErrAnd}
+use Rattle.error.specs.Codes.{OK, refusal_number}
+use Rattle.error.specs.Answer.{Answer, answer, says}
+use Rattle.error.specs.declared.Refusal.{Refusal}
 
 module _ {A : Type 0} where
   pub same_code : {a b : Answer A} → a ≡ b → a.code ≡ b.code
@@ -15,3 +18,9 @@ module _ {A : Type 0} where
   -- An answer with a negative code is not one with OK.
   pub refused_not_done : (n : ℕ) {v w : A} → answer (negsuc n) v ≡ answer OK w → ⊥
   refused_not_done n e = pos-ne-negsuc 0 n (sym (same_code e))
+
+-- What the exit of a `?` says: the refusal that came, with the value that a refusing call gives.
+pub says_refused : {A : Type 0} (refused : A) (why : Refusal) (r : Result A Refusal) → IsErrAnd r (λ given. given ≡ why)
+    → says refused r ≡ answer (refusal_number why) refused
+says_refused refused why (Ok v) same = elim same [ ]
+says_refused refused why (Err given) same = ap (λ (w : Refusal). answer (refusal_number w) refused) same

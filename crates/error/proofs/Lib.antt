@@ -1,2 +1,2 @@
-pub mod OneResult
 pub mod Answers
+pub mod OneResult

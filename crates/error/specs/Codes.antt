@@ -1,7 +1,7 @@
 -- 01, "Codes", and 02, request 6: the numbers that a call answers with.
-use Rattle.std.specs.Prelude.{Bool, eqb, ℤ, pos, neg_ℤ, nat_abs}
-use Rattle.error.specs.declared.Code.{Code}
-use Rattle.error.specs.declared.Code.TheVariants.{Ok, Eperm, Enomem, Ebusy, Einval, Edeadlk, Ealready, Eoverflow}
+use Rattle.std.specs.Prelude.{◌≡◌, List, ℕ, codes, Bool, eqb, ℤ, pos, neg_ℤ, nat_abs, Result, Ok, Err}
+use Rattle.error.specs.declared.Refusal.{Refusal}
+use Rattle.error.specs.declared.Refusal.TheVariants.{Eperm, Enomem, Ebusy, Einval, Edeadlk, Ealready, Eoverflow}
 
 -- Done.
 abbrev pub OK : ℤ
@@ -35,16 +35,35 @@ EALREADY = neg_ℤ (pos 114)
 abbrev pub EOVERFLOW : ℤ
 EOVERFLOW = neg_ℤ (pos 139)
 
--- The number of each case of the code's enum.
-abbrev pub number_of : Code → ℤ
-number_of Ok = OK
-number_of Eperm = EPERM
-number_of Enomem = ENOMEM
-number_of Ebusy = EBUSY
-number_of Einval = EINVAL
-number_of Edeadlk = EDEADLK
-number_of Ealready = EALREADY
-number_of Eoverflow = EOVERFLOW
+-- The number of each refusal.
+abbrev pub refusal_number : Refusal → ℤ
+refusal_number Eperm = EPERM
+refusal_number Enomem = ENOMEM
+refusal_number Ebusy = EBUSY
+refusal_number Einval = EINVAL
+refusal_number Edeadlk = EDEADLK
+refusal_number Ealready = EALREADY
+refusal_number Eoverflow = EOVERFLOW
+
+-- The name of each refusal.
+abbrev pub refusal_name : Refusal → List ℕ
+refusal_name Eperm = codes "EPERM"
+refusal_name Enomem = codes "ENOMEM"
+refusal_name Ebusy = codes "EBUSY"
+refusal_name Einval = codes "EINVAL"
+refusal_name Edeadlk = codes "EDEADLK"
+refusal_name Ealready = codes "EALREADY"
+refusal_name Eoverflow = codes "EOVERFLOW"
+
+-- The refusal with this number, or the number where no refusal has it.
+abbrev pub IsOfNumber : ℤ → Result Refusal ℤ → Type 0
+IsOfNumber number (Ok why) = refusal_number why ≡ number
+IsOfNumber number (Err other) = (other ≡ number) × ((why : Refusal) → refusal_number why ≡ number → ⊥)
+
+-- The number of what a call answers: OK's, or the refusal's.
+abbrev pub number_of : Result (Unit {0}) Refusal → ℤ
+number_of (Ok done) = OK
+number_of (Err why) = refusal_number why
 
 -- The number is OK's.
 abbrev pub is_ok : ℤ → Bool

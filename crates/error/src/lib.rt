@@ -1,12 +1,16 @@
 // The codes that a call answers with.
 //
-// Upstream: src/error.rs, every constant with its number. New: `Code`, the seven codes of document 01's table and the eighth of document 02's
-// sixth request, EDEADLK, as an enum, and `number`, the one place where a case becomes a number. A caller can rely on the numbers: they are Zephyr's.
+// Upstream: src/error.rs, every constant with its number. New: `Refusal`, the refusals of document 01's table and the one of document 02's sixth
+// request, EDEADLK, as an enum, its number and its name. What a call answers is a `Result` with a refusal as its error, and `number` makes it the
+// code that C sees. A caller can rely on the numbers: they are Zephyr's.
 
 #![tactic(auto)]
 
-ghost use Rattle.std.specs.Prelude.{◌≡◌};
-ghost use Rattle.error.specs.Codes.{number_of, is_ok};
+ghost use Rattle.std.specs.Prelude.{◌≡◌, Some};
+ghost use Rattle.error.specs.Codes.{number_of, refusal_number, refusal_name, IsOfNumber};
+
+use std::error::Error;
+use std::fmt;
 
 pub const OK: i32 = 0;
 
@@ -42,10 +46,9 @@ pub const EOVERFLOW: i32 = -139;
 
 pub const ECANCELED: i32 = -140;
 
-// The codes that are given out, and no others.
-#[derive(Clone, Copy)]
-pub enum Code {
-    Ok,
+// Why a call refuses: the codes that are given out but OK, and no others.
+#[derive(Clone, Copy, Debug, PartialEq, Eq)]
+pub enum Refusal {
     Eperm,
     Enomem,
     Ebusy,
@@ -55,41 +58,66 @@ pub enum Code {
     Eoverflow,
 }
 
-// The number of a code.
-pub fn number(code: Code) -> i32
-    ensures { result ≡ number_of code }
-{
-    match code {
-        Code::Ok => OK,
-        Code::Eperm => EPERM,
-        Code::Enomem => ENOMEM,
-        Code::Ebusy => EBUSY,
-        Code::Einval => EINVAL,
-        Code::Edeadlk => EDEADLK,
-        Code::Ealready => EALREADY,
-        Code::Eoverflow => EOVERFLOW,
+impl From<Refusal> for i32 {
+    ghost from_gives = { λ why number. number ≡ refusal_number why };
+
+    fn from(why: Refusal) -> i32 {
+        match why {
+            Refusal::Eperm => EPERM,
+            Refusal::Enomem => ENOMEM,
+            Refusal::Ebusy => EBUSY,
+            Refusal::Einval => EINVAL,
+            Refusal::Edeadlk => EDEADLK,
+            Refusal::Ealready => EALREADY,
+            Refusal::Eoverflow => EOVERFLOW,
+        }
     }
 }
 
-// Whether a call was done.
-pub fn is_ok(code: Code) -> bool
-    ensures { result ≡ is_ok (number_of code) }
-{
-    match code {
-        Code::Ok => true,
-        Code::Eperm => false,
-        Code::Enomem => false,
-        Code::Ebusy => false,
-        Code::Einval => false,
-        Code::Edeadlk => false,
-        Code::Ealready => false,
-        Code::Eoverflow => false,
+// The refusal that has a number; a number that none has comes back.
+impl TryFrom<i32> for Refusal {
+    type Error = i32;
+
+    ghost try_from_gives = { IsOfNumber };
+
+    fn try_from(number: i32) -> Result<Refusal, i32> {
+        match number {
+            EPERM => Ok(Refusal::Eperm),
+            ENOMEM => Ok(Refusal::Enomem),
+            EBUSY => Ok(Refusal::Ebusy),
+            EINVAL => Ok(Refusal::Einval),
+            EDEADLK => Ok(Refusal::Edeadlk),
+            EALREADY => Ok(Refusal::Ealready),
+            EOVERFLOW => Ok(Refusal::Eoverflow),
+            _ => Err(number),
+        }
     }
 }
 
-// A yes or no, with its code. A refused question is answered no.
-#[derive(Clone, Copy)]
-pub struct YesNo {
-    pub code: Code,
-    pub yes: bool,
+impl fmt::Display for Refusal {
+    ghost output = { λ why. Some (refusal_name why) };
+
+    fn fmt<W: fmt::Write>(&self, f: &mut fmt::Formatter<W>) -> fmt::Result {
+        f.write_str(match self {
+            Refusal::Eperm => "EPERM",
+            Refusal::Enomem => "ENOMEM",
+            Refusal::Ebusy => "EBUSY",
+            Refusal::Einval => "EINVAL",
+            Refusal::Edeadlk => "EDEADLK",
+            Refusal::Ealready => "EALREADY",
+            Refusal::Eoverflow => "EOVERFLOW",
+        })
+    }
+}
+
+impl Error for Refusal {}
+
+// The number of what a call answers.
+pub fn number(answer: Result<(), Refusal>) -> i32
+    ensures { result ≡ number_of answer }
+{
+    match answer {
+        Ok(()) => OK,
+        Err(why) => i32::from(why),
+    }
 }

@@ -35,8 +35,8 @@ use Rattle.spinlock.specs.Lock.{
   read,
   is_free,
 }
-use Rattle.spinlock.specs.declared.Owner.{Owner}
-use Rattle.spinlock.specs.declared.Owner.TheVariants.{None, Thread}
+use Rattle.std.specs.Prelude.{Option}
+use Rattle.std.specs.Prelude.{None, Some}
 use Rattle.spinlock.specs.declared.SpinlockState.{SpinlockState}
 use Rattle.spinlock.specs.declared.Operation.{Operation}
 use Rattle.spinlock.specs.declared.Operation.TheVariants.{Acquire, Release}
@@ -57,7 +57,7 @@ invalid_refused op s tid elsewhere bad = rw bad
 
 -- ---- validity is kept
 
-pub held_valid : (s : SpinlockState) (tid : ℕ) → s.owner ≡ Thread tid → 0 < s.nest_count → s.nest_count ≤ max_nest_depth → valid_record s ≡ true
+pub held_valid : (s : SpinlockState) (tid : ℕ) → s.owner ≡ Some tid → 0 < s.nest_count → s.nest_count ≤ max_nest_depth → valid_record s ≡ true
 unfolding valid_record
 held_valid s tid owner some most = simp (owner, lt-ltb 0 s.nest_count some, le-leb s.nest_count max_nest_depth most)
 
@@ -98,7 +98,8 @@ operate_keeps_valid op s tid elsewhere =
 
 -- ---- a refusal changes nothing
 
-after_refused : (op : Operation) (sit : Situation) (s : SpinlockState) (tid : ℕ) → (code_of op sit ≡ OK → ⊥) → after op sit s tid ≡ s
+-- What the rule refuses it leaves.
+pub after_refused : (op : Operation) (sit : Situation) (s : SpinlockState) (tid : ℕ) → (code_of op sit ≡ OK → ⊥) → after op sit s tid ≡ s
 unfolding code_of after
 after_refused (Acquire nested) Free s tid h = absurd (h refl)
 after_refused (Acquire false) Own s tid h = refl
@@ -134,7 +135,7 @@ release_held s tid mine = by_depth (held_valid s tid mine.owner mine.some mine.m
 -- The record of a thread at a depth: free at depth 0, and held with the flag set above it.
 abbrev pub at_depth : ℕ → ℕ → SpinlockState
 at_depth zero tid = free_record
-at_depth (suc n) tid = record { owner = Thread tid; nest_count = suc n; irq_saved = true }
+at_depth (suc n) tid = record { owner = Some tid; nest_count = suc n; irq_saved = true }
 
 taken_held : (tid : ℕ) → HeldBy (taken_by tid) tid
 taken_held tid = record { owner = refl; some = lit< tt; most = lit≤ tt }
@@ -189,7 +190,7 @@ nested_deeper zero tid h = refl
 nested_deeper (suc n) tid h =
     let s = at_depth (suc n) tid in
     operated (Acquire true) s tid false (held_valid s tid refl (omega arith) (omega arith)) (below_is_own s tid refl h)
-    ∙ ap (λ (d : ℕ). answer OK (record { owner = Thread tid; nest_count = d; irq_saved = true })) (add-one (suc n))
+    ∙ ap (λ (d : ℕ). answer OK (record { owner = Some tid; nest_count = d; irq_saved = true })) (add-one (suc n))
 
 -- At 255 it goes no further.
 pub nested_no_further : (tid : ℕ) → acquire (at_depth max_nest_depth tid) tid true ≡ answer EBUSY (at_depth max_nest_depth tid)
@@ -323,7 +324,7 @@ again_refused_unchanged s tid refusal =
 -- ---- a thread elsewhere
 
 -- Elsewhere the owner is refused as another thread is.
-pub own_elsewhere : (op : Operation) (s : SpinlockState) (tid : ℕ) → valid_record s ≡ true → s.owner ≡ Thread tid
+pub own_elsewhere : (op : Operation) (s : SpinlockState) (tid : ℕ) → valid_record s ≡ true → s.owner ≡ Some tid
     → operate op s tid true ≡ answer (code_of op Foreign) s
 unfolding situation_at after
 own_elsewhere op s tid valid mine = operated op s tid true valid (simp (mine, eq-eqb tid tid refl)) ∙ ap (answer (code_of op Foreign)) (stays op)
@@ -338,6 +339,6 @@ unfolding operate situation_at
 others_elsewhere op s tid other =
     ap (λ (sit : Situation). cond (valid_record s) (answer (code_of op sit) (after op sit s tid)) (answer EINVAL s)) (by s.owner other)
   where
-    by : (o : Owner) → owns o tid ≡ false → situation_by o s.nest_count tid true ≡ situation_by o s.nest_count tid false
+    by : (o : Option ℕ) → owns o tid ≡ false → situation_by o s.nest_count tid true ≡ situation_by o s.nest_count tid false
     by None e = refl
-    by (Thread t) e = rw e
+    by (Some t) e = rw e

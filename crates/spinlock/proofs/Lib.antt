@@ -2,4 +2,3 @@ pub mod Table
 pub mod Situations
 pub mod Laws
 pub mod Upstream
-pub mod OneResult

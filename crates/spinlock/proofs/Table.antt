@@ -9,21 +9,38 @@ use lib.Dec.{lit<}
 use lib.IntN.{ℤ}
 use lib.ListN.{length, get_or, get_or-map}
 use Rattle.error.specs.Codes.{OK, number_of}
-use Rattle.error.specs.declared.Code.{Code}
-use Rattle.error.specs.declared.Code.TheVariants.{Ok, Eperm, Ebusy, Edeadlk}
+use Rattle.std.specs.Prelude.{Result, Ok, Err}
+use Rattle.error.specs.declared.Refusal.{Refusal}
+use Rattle.error.specs.declared.Refusal.TheVariants.{Eperm, Ebusy, Edeadlk}
 use Rattle.spinlock.specs.Table.{row_of, column_of, code_of, code_again}
 use Rattle.spinlock.specs.declared.Operation.{Operation}
 use Rattle.spinlock.specs.declared.Operation.TheVariants.{Acquire, Release}
 use Rattle.spinlock.specs.declared.Situation.{Situation}
 use Rattle.spinlock.specs.declared.Situation.TheVariants.{Free, Own, Full, Foreign}
 
+-- What an operation on a lock answers, apart from the record.
+abbrev pub Coded : Type 0
+Coded = Result (Unit {0}) Refusal
+
+abbrev pub done : Coded
+done = Ok tt
+
+abbrev pub busy : Coded
+busy = Err Ebusy
+
+abbrev pub not_yours : Coded
+not_yours = Err Eperm
+
+abbrev pub deadlock : Coded
+deadlock = Err Edeadlk
+
 -- The table as the code has it.
-abbrev pub codes : List (List Code)
+abbrev pub codes : List (List Coded)
 codes =
-    (Ok ∷ Ebusy ∷ Ebusy ∷ Ebusy ∷ [])
-    ∷ (Ok ∷ Ok ∷ Ebusy ∷ Ebusy ∷ [])
-    ∷ (Eperm ∷ Ok ∷ Ok ∷ Eperm ∷ [])
-    ∷ (Ok ∷ Edeadlk ∷ Edeadlk ∷ Edeadlk ∷ [])
+    (done ∷ busy ∷ busy ∷ busy ∷ [])
+    ∷ (done ∷ done ∷ busy ∷ busy ∷ [])
+    ∷ (not_yours ∷ done ∷ done ∷ not_yours ∷ [])
+    ∷ (done ∷ deadlock ∷ deadlock ∷ deadlock ∷ [])
     ∷ []
 
 -- The rule of each row.
@@ -37,7 +54,7 @@ situations = Free ∷ Own ∷ Full ∷ Foreign ∷ []
 rule_row : (Situation → ℤ) → List ℤ
 rule_row rule = map rule situations
 
-numbers : List Code → List ℤ
+numbers : List Coded → List ℤ
 numbers = map number_of
 
 table_is_rule : map numbers codes ≡ map rule_row rules
@@ -72,18 +89,18 @@ module _ (row : ℕ) (rule : Situation → ℤ) (at : get_or rules row code_agai
       ∙ get_or-map rule_row rules row code_again
       ∙ ap rule_row at
 
-  rule_entry : (s : Situation) → number_of (get_or (get_or codes row []) (column_of s) Ok) ≡ rule s
+  rule_entry : (s : Situation) → number_of (get_or (get_or codes row []) (column_of s) done) ≡ rule s
   unfolding numbers rule_row
   rule_entry s =
-      sym (get_or-map number_of (get_or codes row []) (column_of s) Ok)
+      sym (get_or-map number_of (get_or codes row []) (column_of s) done)
       ∙ ap (λ (r : List ℤ). get_or r (column_of s) OK) row_is_rule
       ∙ at_any (rule_row rule) (column_of s) OK (rule Free) (situation_in_table s).1
       ∙ get_or-map rule situations (column_of s) Free
       ∙ ap rule (situation_in_table s).0
 
-pub entry : (op : Operation) (s : Situation) → number_of (get_or (get_or codes (row_of op) []) (column_of s) Ok) ≡ code_of op s
+pub entry : (op : Operation) (s : Situation) → number_of (get_or (get_or codes (row_of op) []) (column_of s) done) ≡ code_of op s
 entry op s = rule_entry (row_of op) (code_of op) (operation_at op).0 (operation_at op).1 s
 
 -- The last row is that of a plain acquire again.
-pub entry_again : (s : Situation) → number_of (get_or (get_or codes 3 []) (column_of s) Ok) ≡ code_again s
+pub entry_again : (s : Situation) → number_of (get_or (get_or codes 3 []) (column_of s) done) ≡ code_again s
 entry_again s = rule_entry 3 code_again refl (lit< tt) s

@@ -30,8 +30,8 @@ use Rattle.spinlock.specs.Lock.{
   owner_get,
   is_owner,
 }
-use Rattle.spinlock.specs.declared.Owner.{Owner}
-use Rattle.spinlock.specs.declared.Owner.TheVariants.{None, Thread}
+use Rattle.std.specs.Prelude.{Option}
+use Rattle.std.specs.Prelude.{None, Some}
 use Rattle.spinlock.specs.declared.SpinlockState.{SpinlockState}
 use Rattle.spinlock.specs.declared.Situation.{Situation}
 use Rattle.spinlock.specs.declared.Operation.TheVariants.{Acquire, Release}
@@ -65,11 +65,11 @@ pub inv_valid : (s : SpinlockState) → Inv s → valid_record s ≡ true
 unfolding valid_record
 inv_valid s inv = by s.owner refl
   where
-    by : (o : Owner) → s.owner ≡ o → valid_by o s.nest_count s.irq_saved ≡ true
+    by : (o : Option ℕ) → s.owner ≡ o → valid_by o s.nest_count s.irq_saved ≡ true
     by None e =
         let none : s.nest_count ≡ 0 = (let l = ltb-false 0 s.nest_count (sym inv.present ∙ ap held e) in omega arith) in
         rw (eq-eqb s.nest_count 0 none, inv.flag (ap held e))
-    by (Thread t) e = rw (sym inv.present ∙ ap held e, le-leb s.nest_count max_nest_depth inv.bounded)
+    by (Some t) e = rw (sym inv.present ∙ ap held e, le-leb s.nest_count max_nest_depth inv.bounded)
 
 module _ (s : SpinlockState) (tid : ℕ) (valid : valid_record s ≡ true) where
   -- acquire_check: free is valid; held by the same thread, and held by another, is not.
@@ -77,11 +77,11 @@ module _ (s : SpinlockState) (tid : ℕ) (valid : valid_record s ≡ true) where
   unfolding read
   acquire_check_free e = rw (valid, e)
 
-  pub acquire_check_own : s.owner ≡ Thread tid → acquire_check s tid ≡ answer OK false
+  pub acquire_check_own : s.owner ≡ Some tid → acquire_check s tid ≡ answer OK false
   unfolding read
   acquire_check_own e = rw (valid, e)
 
-  pub acquire_check_other : (t : ℕ) → s.owner ≡ Thread t → (t ≡ tid → ⊥) → acquire_check s tid ≡ answer OK false
+  pub acquire_check_other : (t : ℕ) → s.owner ≡ Some t → (t ≡ tid → ⊥) → acquire_check s tid ≡ answer OK false
   unfolding read
   acquire_check_other t e other = rw (valid, e)
 
@@ -90,7 +90,7 @@ module _ (s : SpinlockState) (tid : ℕ) (valid : valid_record s ≡ true) where
   unfolding code_of after
   acquire_free e = operated (Acquire false) s tid false valid (none_is_free s tid e)
 
-  pub acquire_held : (t : ℕ) → s.owner ≡ Thread t → acquire s tid false ≡ answer EBUSY s
+  pub acquire_held : (t : ℕ) → s.owner ≡ Some t → acquire s tid false ≡ answer EBUSY s
   acquire_held t e = plain_acquire_of_held s tid valid (ap held e)
 
   -- acquire_nested, which is acquire with its flag set: free; the same owner with room; the same owner at the greatest depth; another owner. The
@@ -99,15 +99,15 @@ module _ (s : SpinlockState) (tid : ℕ) (valid : valid_record s ≡ true) where
   unfolding code_of after
   nested_free e = operated (Acquire true) s tid false valid (none_is_free s tid e)
 
-  pub nested_own : s.owner ≡ Thread tid → s.nest_count < max_nest_depth → acquire s tid true ≡ answer OK (deeper s)
+  pub nested_own : s.owner ≡ Some tid → s.nest_count < max_nest_depth → acquire s tid true ≡ answer OK (deeper s)
   unfolding code_of after
   nested_own e below = operated (Acquire true) s tid false valid (below_is_own s tid e below)
 
-  pub nested_full : s.owner ≡ Thread tid → max_nest_depth ≤ s.nest_count → acquire s tid true ≡ answer EBUSY s
+  pub nested_full : s.owner ≡ Some tid → max_nest_depth ≤ s.nest_count → acquire s tid true ≡ answer EBUSY s
   unfolding code_of after
   nested_full e deepest = operated (Acquire true) s tid false valid (deepest_is_full s tid e deepest)
 
-  pub nested_other : (t : ℕ) → s.owner ≡ Thread t → (t ≡ tid → ⊥) → acquire s tid true ≡ answer EBUSY s
+  pub nested_other : (t : ℕ) → s.owner ≡ Some t → (t ≡ tid → ⊥) → acquire s tid true ≡ answer EBUSY s
   unfolding code_of after
   nested_other t e other = operated (Acquire true) s tid false valid (other_is_foreign s tid t e other)
 
@@ -116,15 +116,15 @@ module _ (s : SpinlockState) (tid : ℕ) (valid : valid_record s ≡ true) where
   unfolding code_of after
   release_free e = operated Release s tid false valid (none_is_free s tid e)
 
-  pub release_other : (t : ℕ) → s.owner ≡ Thread t → (t ≡ tid → ⊥) → release s tid ≡ answer EPERM s
+  pub release_other : (t : ℕ) → s.owner ≡ Some t → (t ≡ tid → ⊥) → release s tid ≡ answer EPERM s
   unfolding code_of after
   release_other t e other = operated Release s tid false valid (other_is_foreign s tid t e other)
 
-  pub release_last : s.owner ≡ Thread tid → s.nest_count ≡ 1 → release s tid ≡ answer OK free_record
+  pub release_last : s.owner ≡ Some tid → s.nest_count ≡ 1 → release s tid ≡ answer OK free_record
   release_last e one =
       release_held s tid (record { owner = e; some = omega arith; most = (valid_inv s valid).bounded }) ∙ rw (eq-eqb s.nest_count 1 one)
 
-  pub release_inner : s.owner ≡ Thread tid → 1 < s.nest_count
+  pub release_inner : s.owner ≡ Some tid → 1 < s.nest_count
       → release s tid ≡ answer OK (record { owner = s.owner; nest_count = s.nest_count - 1; irq_saved = s.irq_saved })
   release_inner e more =
       release_held s tid (record { owner = e; some = omega arith; most = (valid_inv s valid).bounded })
@@ -152,12 +152,12 @@ module _ (s : SpinlockState) (tid : ℕ) (valid : valid_record s ≡ true) where
   is_owner_says = rw valid
 
 -- The owner is the thread exactly if `owns` says so.
-pub owns_own : (o : Owner) (tid : ℕ) → o ≡ Thread tid → owns o tid ≡ true
+pub owns_own : (o : Option ℕ) (tid : ℕ) → o ≡ Some tid → owns o tid ≡ true
 owns_own o tid e = rw (e, eq-eqb tid tid refl)
 
-pub owns_only : (o : Owner) (tid : ℕ) → owns o tid ≡ true → o ≡ Thread tid
+pub owns_only : (o : Option ℕ) (tid : ℕ) → owns o tid ≡ true → o ≡ Some tid
 owns_only None tid e = absurd (false≢true e)
-owns_only (Thread t) tid e = ap Thread (eqb-true t tid e)
+owns_only (Some t) tid e = ap Some (eqb-true t tid e)
 
 -- init: the new record is valid and free, at depth 0, with the flag clear.
 pub init_says : (valid_record free_record ≡ true) × (free_record.owner ≡ None) × (free_record.nest_count ≡ 0) × (free_record.irq_saved ≡ false)

@@ -1,20 +1,15 @@
 -- 01, "Lock record", and 02, request 6: owner (none or a thread), depth, irq flag.
 use Rattle.std.specs.Prelude.{ℕ, ◌+◌, ◌-◌, Bool, true, false, ◌&&◌, not, cond, eqb, ltb, leb}
-use Rattle.error.specs.Codes.{OK, EINVAL, number_of}
+use Rattle.error.specs.Codes.{OK, EINVAL}
 use Rattle.error.specs.Answer.{Answer, answer}
-use Rattle.spinlock.specs.declared.Owner.{Owner}
-use Rattle.spinlock.specs.declared.Owner.TheVariants.{None, Thread}
+use Rattle.std.specs.Prelude.{Option}
+use Rattle.std.specs.Prelude.{None, Some}
 use Rattle.spinlock.specs.declared.SpinlockState.{SpinlockState}
-use Rattle.spinlock.specs.declared.Changed.{Changed}
 use Rattle.spinlock.specs.declared.Operation.{Operation}
 use Rattle.spinlock.specs.declared.Operation.TheVariants.{Acquire, Release}
 use Rattle.spinlock.specs.declared.Situation.{Situation}
 use Rattle.spinlock.specs.declared.Situation.TheVariants.{Free, Own, Full, Foreign}
 use Rattle.spinlock.specs.Table.{code_of, code_again}
-
--- What a changed record says, in 01's terms: a code and the record after it.
-abbrev pub changed_says : Changed → Answer SpinlockState
-changed_says a = answer (number_of a.code) a.state
 
 -- The greatest depth.
 abbrev pub max_nest_depth : ℕ
@@ -26,7 +21,7 @@ free_record = record { owner = None; nest_count = 0; irq_saved = false }
 
 -- Taking a free lock gives owner, depth 1, flag set.
 abbrev pub taken_by : ℕ → SpinlockState
-taken_by tid = record { owner = Thread tid; nest_count = 1; irq_saved = true }
+taken_by tid = record { owner = Some tid; nest_count = 1; irq_saved = true }
 
 -- Gains one; the owner and the flag stay.
 abbrev pub deeper : SpinlockState → SpinlockState
@@ -39,9 +34,9 @@ shallower s =
     (record { owner = s.owner; nest_count = s.nest_count - 1; irq_saved = s.irq_saved })
 
 -- Owner present exactly if depth > 0; depth at most 255; flag clear when free.
-abbrev pub valid_by : Owner → ℕ → Bool → Bool
+abbrev pub valid_by : Option ℕ → ℕ → Bool → Bool
 valid_by None depth flag = eqb depth 0 && not flag
-valid_by (Thread t) depth flag = ltb 0 depth && leb depth max_nest_depth
+valid_by (Some t) depth flag = ltb 0 depth && leb depth max_nest_depth
 
 -- The record is valid.
 unfoldable pub valid_record : SpinlockState → Bool
@@ -49,9 +44,9 @@ valid_record s = valid_by s.owner s.nest_count s.irq_saved
 
 -- Free, the owner's below 255, the owner's at 255, or another's. The right thread elsewhere, on another CPU than the lock was taken on, is as
 -- another thread.
-abbrev pub situation_by : Owner → ℕ → ℕ → Bool → Situation
+abbrev pub situation_by : Option ℕ → ℕ → ℕ → Bool → Situation
 situation_by None depth tid elsewhere = Free
-situation_by (Thread t) depth tid elsewhere = cond (eqb t tid) (cond elsewhere Foreign (cond (ltb depth max_nest_depth) Own Full)) Foreign
+situation_by (Some t) depth tid elsewhere = cond (eqb t tid) (cond elsewhere Foreign (cond (ltb depth max_nest_depth) Own Full)) Foreign
 
 -- What a record is to a thread.
 unfoldable pub situation_at : SpinlockState → ℕ → Bool → Situation
@@ -91,14 +86,14 @@ unfoldable pub read : {A : Type 0} → SpinlockState → A → A → Answer A
 read s found nothing = cond (valid_record s) (answer OK found) (answer EINVAL nothing)
 
 -- The record has an owner.
-abbrev pub held : Owner → Bool
+abbrev pub held : Option ℕ → Bool
 held None = false
-held (Thread t) = true
+held (Some t) = true
 
 -- The thread is the owner.
-abbrev pub owns : Owner → ℕ → Bool
+abbrev pub owns : Option ℕ → ℕ → Bool
 owns None tid = false
-owns (Thread t) tid = eqb t tid
+owns (Some t) tid = eqb t tid
 
 -- is_free: yes exactly if free.
 abbrev pub is_free : SpinlockState → Answer Bool
@@ -117,7 +112,7 @@ abbrev pub nest_depth : SpinlockState → Answer ℕ
 nest_depth s = read s s.nest_count 0
 
 -- owner_get reports the owner.
-abbrev pub owner_get : SpinlockState → Answer Owner
+abbrev pub owner_get : SpinlockState → Answer (Option ℕ)
 owner_get s = read s s.owner None
 
 -- is_owner: yes exactly if the owner is the thread.

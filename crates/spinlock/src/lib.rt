@@ -13,9 +13,9 @@
 
 ghost use Rattle.std.specs.Prelude.{◌≡◌, Bool, true, false, ◌<◌};
 ghost use Rattle.error.specs.Codes.{number_of};
+ghost use Rattle.error.specs.Answer.{says};
 ghost use Rattle.spinlock.specs.Table.{row_of, column_of, code_of, code_again};
 ghost use Rattle.spinlock.specs.Lock.{
-  changed_says,
   free_record,
   taken_by,
   max_nest_depth,
@@ -30,35 +30,21 @@ ghost use Rattle.spinlock.specs.Lock.{
   release,
 };
 
-use error::Code;
+use error::Refusal;
 
 // How deep one thread may nest.
 pub const MAX_NEST_DEPTH: u32 = 255;
 
-// Who holds a lock.
-#[derive(Clone, Copy)]
-pub enum Owner {
-    None,
-    Thread(u32),
-}
-
-// The lock record.
-#[derive(Clone, Copy)]
+// The lock record. Its owner is the thread that holds the lock, if one does.
+#[derive(Clone, Copy, Debug, PartialEq, Eq)]
 pub struct SpinlockState {
-    pub owner: Owner,
+    pub owner: Option<u32>,
     pub nest_count: u32,
     pub irq_saved: bool,
 }
 
-// A record after a call, with the call's code.
-#[derive(Clone, Copy)]
-pub struct Changed {
-    pub code: Code,
-    pub state: SpinlockState,
-}
-
 // The calls that change a record. An acquire is plain or nested.
-#[derive(Clone, Copy)]
+#[derive(Clone, Copy, Debug, PartialEq, Eq)]
 pub enum Operation {
     Acquire { nested: bool },
     Release,
@@ -66,7 +52,7 @@ pub enum Operation {
 
 // What a valid record is to a thread that asks: free, its own with room to nest, its own and full, or another's. Its own counts as another's
 // where it asks from another CPU than it took the lock on.
-#[derive(Clone, Copy)]
+#[derive(Clone, Copy, Debug, PartialEq, Eq)]
 pub enum Situation {
     Free,
     Own,
@@ -76,12 +62,20 @@ pub enum Situation {
 
 // The code of each operation in each situation: rows plain acquire, nested acquire, release, and plain acquire again, by the CPU that the lock's
 // word names; columns free, own, full, foreign.
-const CODES: [[Code; 4]; 4] = [
-    [Code::Ok, Code::Ebusy, Code::Ebusy, Code::Ebusy],
-    [Code::Ok, Code::Ok, Code::Ebusy, Code::Ebusy],
-    [Code::Eperm, Code::Ok, Code::Ok, Code::Eperm],
-    [Code::Ok, Code::Edeadlk, Code::Edeadlk, Code::Edeadlk],
+const CODES: [[Result<(), Refusal>; 4]; 4] = [
+    [DONE, BUSY, BUSY, BUSY],
+    [DONE, DONE, BUSY, BUSY],
+    [NOT_YOURS, DONE, DONE, NOT_YOURS],
+    [DONE, DEADLOCK, DEADLOCK, DEADLOCK],
 ];
+
+const DONE: Result<(), Refusal> = Ok(());
+
+const BUSY: Result<(), Refusal> = Err(Refusal::Ebusy);
+
+const NOT_YOURS: Result<(), Refusal> = Err(Refusal::Eperm);
+
+const DEADLOCK: Result<(), Refusal> = Err(Refusal::Edeadlk);
 
 // The row of a plain acquire again.
 const AGAIN: usize = 3;
@@ -107,7 +101,7 @@ fn column(situation: Situation) -> usize
 }
 
 // The code of an operation in a situation.
-fn code_of(operation: Operation, situation: Situation) -> Code
+fn code_of(operation: Operation, situation: Situation) -> Result<(), Refusal>
     ensures { number_of result ≡ code_of operation situation }
 {
     let i = row(operation);
@@ -116,7 +110,7 @@ fn code_of(operation: Operation, situation: Situation) -> Code
 }
 
 // The code of a plain acquire again in a situation.
-fn code_again(situation: Situation) -> Code
+fn code_again(situation: Situation) -> Result<(), Refusal>
     ensures { number_of result ≡ code_again situation }
 {
     let j = column(situation);
@@ -128,7 +122,7 @@ fn taken_by(tid: u32) -> SpinlockState
     ensures { result ≡ taken_by tid }
 {
     SpinlockState {
-        owner: Owner::Thread(tid),
+        owner: Some(tid),
         nest_count: 1,
         irq_saved: true,
     }
@@ -140,47 +134,32 @@ impl SpinlockState {
         ensures { result ≡ free_record }
     {
         SpinlockState {
-            owner: Owner::None,
+            owner: None,
             nest_count: 0,
             irq_saved: false,
         }
     }
 
     // Whether the three fields fit together.
+    #[tactic(auto, unfolding(crate::specs::Lock::valid_record))]
     pub fn valid(self) -> bool
         ensures { result ≡ valid_record self }
     {
-        let owner = self.owner;
-        match owner {
-            Owner::None => {
-                if self.nest_count == 0 {
-                    !self.irq_saved
-                } else {
-                    false
-                }
-            }
-            Owner::Thread(_) => {
-                if 0 < self.nest_count {
-                    self.nest_count <= MAX_NEST_DEPTH
-                } else {
-                    false
-                }
-            }
+        match self.owner {
+            None => self.nest_count == 0 && !self.irq_saved,
+            Some(_) => 0 < self.nest_count && self.nest_count <= MAX_NEST_DEPTH,
         }
     }
 
     // What the record is to a thread.
+    #[tactic(auto, unfolding(crate::specs::Lock::situation_at))]
     fn situation(self, tid: u32, elsewhere: bool) -> Situation
         ensures { result ≡ situation_at self tid elsewhere }
     {
-        let owner = self.owner;
-        match owner {
-            Owner::None => Situation::Free,
-            Owner::Thread(holder) => {
-                if holder != tid {
-                    return Situation::Foreign;
-                }
-                if elsewhere {
+        match self.owner {
+            None => Situation::Free,
+            Some(holder) => {
+                if holder != tid || elsewhere {
                     return Situation::Foreign;
                 }
                 if self.nest_count < MAX_NEST_DEPTH {
@@ -197,9 +176,10 @@ impl SpinlockState {
         requires { self.nest_count < max_nest_depth }
         ensures { result ≡ Lock·deeper self }
     {
-        let mut next = self;
-        next.nest_count = next.nest_count + 1;
-        next
+        SpinlockState {
+            nest_count: self.nest_count + 1,
+            ..self
+        }
     }
 
     // One level less, and free after the last.
@@ -210,9 +190,10 @@ impl SpinlockState {
         if self.nest_count == 1 {
             return SpinlockState::new();
         }
-        let mut next = self;
-        next.nest_count = next.nest_count - 1;
-        next
+        SpinlockState {
+            nest_count: self.nest_count - 1,
+            ..self
+        }
     }
 
     // The record after an operation in a situation. What is refused stays as it was.
@@ -239,50 +220,46 @@ impl SpinlockState {
 
     // An operation by a thread, which may be elsewhere: on another CPU than it took the lock on, where it is not the owner. An invalid record
     // is refused first and comes back as given; the code of any other comes from the table.
-    pub fn operate(self, operation: Operation, tid: u32, elsewhere: bool) -> Changed
-        ensures { changed_says result ≡ Lock·operate operation self tid elsewhere }
+    pub fn operate(
+        self,
+        operation: Operation,
+        tid: u32,
+        elsewhere: bool,
+    ) -> Result<SpinlockState, Refusal>
+        ensures { says self result ≡ Lock·operate operation self tid elsewhere }
     {
         if !self.valid() {
-            return Changed {
-                code: Code::Einval,
-                state: self,
-            };
+            return Err(Refusal::Einval);
         }
         let situation = self.situation(tid, elsewhere);
-        Changed {
-            code: code_of(operation, situation),
-            state: self.after(operation, situation, tid),
-        }
+        code_of(operation, situation)?;
+        Ok(self.after(operation, situation, tid))
     }
 
     // Takes a free lock. A held one is busy, for its owner too, unless the acquire is nested: then its owner goes one level deeper, up to the
     // greatest depth.
-    pub fn acquire(self, tid: u32, nested: bool) -> Changed
-        ensures { changed_says result ≡ acquire self tid nested }
+    pub fn acquire(self, tid: u32, nested: bool) -> Result<SpinlockState, Refusal>
+        ensures { says self result ≡ acquire self tid nested }
     {
         self.operate(Operation::Acquire { nested }, tid, false)
     }
 
     // Takes a free lock, by a plain acquire on the CPU that the lock's word names: as acquire, but a held lock is a deadlock, since that CPU itself
     // holds it. Who asks knows the word; the record does not.
-    pub fn acquire_again(self, tid: u32) -> Changed
-        ensures { changed_says result ≡ acquire_again self tid }
+    pub fn acquire_again(self, tid: u32) -> Result<SpinlockState, Refusal>
+        ensures { says self result ≡ acquire_again self tid }
     {
-        let plain = self.acquire(tid, false);
         if !self.valid() {
-            return plain;
+            return Err(Refusal::Einval);
         }
         let situation = self.situation(tid, false);
-        let state = plain.state;
-        Changed {
-            code: code_again(situation),
-            state,
-        }
+        code_again(situation)?;
+        Ok(self.after(Operation::Acquire { nested: false }, situation, tid))
     }
 
     // Gives back one level, for the owner alone.
-    pub fn release(self, tid: u32) -> Changed
-        ensures { changed_says result ≡ release self tid }
+    pub fn release(self, tid: u32) -> Result<SpinlockState, Refusal>
+        ensures { says self result ≡ release self tid }
     {
         self.operate(Operation::Release, tid, false)
     }

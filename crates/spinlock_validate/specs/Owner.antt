@@ -1,13 +1,12 @@
 -- 01, "Owner word", and 02, request 4: which thread on which CPU holds a lock, in one word. The rules go by the width k of the tag; 4 CPUs take
 -- 2 bits, and 16 take 4.
-use Rattle.std.specs.Prelude.{ℕ, ◌^◌, Bool, false, ◌&&◌, not, cond, eqb, ltb}
-use Rattle.error.specs.Codes.{OK, EINVAL, number_of}
+use Rattle.std.specs.Prelude.{ℕ, ◌^◌, Bool, false, ◌&&◌, not, cond, eqb, ltb, Option, None, Some, Result, Ok, Err}
+use Rattle.error.specs.Codes.{OK, EINVAL, refusal_number}
+use Rattle.error.specs.declared.Refusal.{Refusal}
 use Rattle.error.specs.Answer.{Answer, answer}
 use Rattle.words.specs.Tag.{taggable, word_of, cpu_of, thread_of}
 use Rattle.spinlock_validate.specs.declared.Width.{Width}
-use Rattle.spinlock_validate.specs.declared.OwnerWord.{OwnerWord}
-use Rattle.spinlock_validate.specs.declared.Decoded.{Decoded}
-use Rattle.spinlock_validate.specs.declared.Decoded.TheVariants.{Free, Held, BadWord}
+use Rattle.spinlock_validate.specs.declared.Held.{Held}
 
 -- 4 CPUs, numbered in the two low bits.
 abbrev pub tag_bits : ℕ
@@ -31,15 +30,11 @@ pub data Holder : Type 0 where
   nobody : Holder
   held_by : ℕ → ℕ → Holder
 
--- An owner word's code and value.
-abbrev pub owner_word_says : OwnerWord → Answer ℕ
-owner_word_says a = answer (number_of a.code) a.word
-
 -- A decoding's code and value: no holder for a free word, and none for a word that is refused.
-abbrev pub decoded_says : Decoded → Answer Holder
-decoded_says Free = answer OK nobody
-decoded_says (Held thread cpu) = answer OK (held_by thread cpu)
-decoded_says BadWord = answer EINVAL nobody
+abbrev pub decoded_says : Result (Option Held) Refusal → Answer Holder
+decoded_says (Ok None) = answer OK nobody
+decoded_says (Ok (Some held)) = answer OK (held_by held.thread held.cpu)
+decoded_says (Err why) = answer (refusal_number why) nobody
 
 -- CPU below 2 ^ k, thread word nonzero and a multiple of 2 ^ k, else EINVAL. Word = thread + CPU.
 unfoldable pub spin_lock_compute_owner : ℕ → ℕ → ℕ → Answer ℕ

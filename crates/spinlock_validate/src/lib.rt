@@ -11,13 +11,12 @@
 
 #![tactic(auto)]
 
-ghost use Rattle.std.specs.Prelude.{◌≡◌, ◌^◌};
-ghost use Rattle.error.specs.Answer.{yes_no_says};
+ghost use Rattle.std.specs.Prelude.{◌≡◌, ◌^◌, false};
+ghost use Rattle.error.specs.Answer.{says};
 ghost use Rattle.words.specs.Tag.{taggable as Tag·taggable, cpu_of};
 ghost use Rattle.spinlock_validate.specs.Owner.{
   width_bits,
   width_by,
-  owner_word_says,
   decoded_says,
   spin_lock_compute_owner,
   spin_lock_decode_owner,
@@ -25,7 +24,7 @@ ghost use Rattle.spinlock_validate.specs.Owner.{
   spin_unlock_valid,
 };
 
-use error::{Code, YesNo};
+use error::Refusal;
 
 // How many CPUs a tag tells apart, and what thread words are multiples of: of two bits (upstream's MAX_CPUS of this file, and THREAD_ALIGN), and
 // of four.
@@ -34,7 +33,7 @@ pub const TAG_CPUS: u64 = 4;
 pub const WIDE_TAG_CPUS: u64 = 16;
 
 // How wide the tag is: two bits or four.
-#[derive(Clone, Copy)]
+#[derive(Clone, Copy, Debug, PartialEq, Eq)]
 pub enum Width {
     Narrow,
     Wide,
@@ -60,25 +59,19 @@ impl Width {
 }
 
 // The width that a flag asks for.
-pub fn width_by(wide: bool) -> Width
-    ensures { result ≡ width_by wide }
-{
-    if wide { Width::Wide } else { Width::Narrow }
+impl From<bool> for Width {
+    ghost from_gives = { λ wide width. width ≡ width_by wide };
+
+    fn from(wide: bool) -> Width {
+        if wide { Width::Wide } else { Width::Narrow }
+    }
 }
 
-// An owner word, or 0 with the code of the refusal.
-#[derive(Clone, Copy)]
-pub struct OwnerWord {
-    pub code: Code,
-    pub word: u64,
-}
-
-// What an owner word says.
-#[derive(Clone, Copy)]
-pub enum Decoded {
-    Free,
-    Held { thread: u64, cpu: u32 },
-    BadWord,
+// Who holds a lock, as its owner word says it.
+#[derive(Clone, Copy, Debug, PartialEq, Eq)]
+pub struct Held {
+    pub thread: u64,
+    pub cpu: u32,
 }
 
 // Whether the CPU fits a tag, and the thread word leaves room for it. That the thread word's own low bits are clear is asked of their sum with the
@@ -97,58 +90,47 @@ fn taggable(cpu: u32, thread: u64, width: Width) -> bool
 }
 
 // The word of a thread on a CPU.
-pub fn spin_lock_compute_owner(current_cpu_id: u32, current_thread: u64, width: Width) -> OwnerWord
-    ensures { owner_word_says result ≡ spin_lock_compute_owner (width_bits width) current_cpu_id current_thread }
+pub fn spin_lock_compute_owner(
+    current_cpu_id: u32,
+    current_thread: u64,
+    width: Width,
+) -> Result<u64, Refusal>
+    ensures { says 0 result ≡ spin_lock_compute_owner (width_bits width) current_cpu_id current_thread }
 {
     if !taggable(current_cpu_id, current_thread, width) {
-        return OwnerWord {
-            code: Code::Einval,
-            word: 0,
-        };
+        return Err(Refusal::Einval);
     }
-    OwnerWord {
-        code: Code::Ok,
-        word: current_thread + (current_cpu_id as u64),
-    }
+    Ok(current_thread + (current_cpu_id as u64))
 }
 
-// Who holds the lock that has this word.
-pub fn spin_lock_decode_owner(thread_cpu: u64, width: Width) -> Decoded
+// Who holds the lock that has this word, if anybody does.
+pub fn spin_lock_decode_owner(thread_cpu: u64, width: Width) -> Result<Option<Held>, Refusal>
     ensures { decoded_says result ≡ spin_lock_decode_owner (width_bits width) thread_cpu }
 {
     if thread_cpu == 0 {
-        return Decoded::Free;
+        return Ok(None);
     }
     if thread_cpu < width.tags() {
-        return Decoded::BadWord;
+        return Err(Refusal::Einval);
     }
     let cpu = width.cpu_of(thread_cpu);
-    Decoded::Held {
+    Ok(Some(Held {
         thread: thread_cpu - (cpu as u64),
         cpu,
-    }
+    }))
 }
 
 // Whether a CPU may go for the lock that has this word: not if it is itself the one that holds it.
-pub fn spin_lock_valid(thread_cpu: u64, current_cpu_id: u32, width: Width) -> YesNo
-    ensures { yes_no_says result ≡ spin_lock_valid (width_bits width) thread_cpu current_cpu_id }
+pub fn spin_lock_valid(thread_cpu: u64, current_cpu_id: u32, width: Width) -> Result<bool, Refusal>
+    ensures { says false result ≡ spin_lock_valid (width_bits width) thread_cpu current_cpu_id }
 {
     if current_cpu_id as u64 >= width.tags() {
-        return YesNo {
-            code: Code::Einval,
-            yes: false,
-        };
+        return Err(Refusal::Einval);
     }
     if thread_cpu == 0 {
-        return YesNo {
-            code: Code::Ok,
-            yes: true,
-        };
+        return Ok(true);
     }
-    YesNo {
-        code: Code::Ok,
-        yes: width.cpu_of(thread_cpu) != current_cpu_id,
-    }
+    Ok(width.cpu_of(thread_cpu) != current_cpu_id)
 }
 
 // Whether the lock that has this word is held by this thread on this CPU: the whole word is compared.
@@ -157,17 +139,11 @@ pub fn spin_unlock_valid(
     current_cpu_id: u32,
     current_thread: u64,
     width: Width,
-) -> YesNo
-    ensures { yes_no_says result ≡ spin_unlock_valid (width_bits width) thread_cpu current_cpu_id current_thread }
+) -> Result<bool, Refusal>
+    ensures { says false result ≡ spin_unlock_valid (width_bits width) thread_cpu current_cpu_id current_thread }
 {
     if !taggable(current_cpu_id, current_thread, width) {
-        return YesNo {
-            code: Code::Einval,
-            yes: false,
-        };
+        return Err(Refusal::Einval);
     }
-    YesNo {
-        code: Code::Ok,
-        yes: thread_cpu == current_thread + (current_cpu_id as u64),
-    }
+    Ok(thread_cpu == current_thread + (current_cpu_id as u64))
 }

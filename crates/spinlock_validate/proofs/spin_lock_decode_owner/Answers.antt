@@ -1,7 +1,5 @@
 -- Each return is the rule's case that the tests on the way name. Assumes nothing.
-use borrow.Author.Rules.{rules}
 use borrow.Author.Tests.{lt-ltb, le-ltb, eq-eqb, ne_eqb}
-use native.Mathlib.Nat.{mod-le}
 use Rattle.spinlock_validate.specs.Owner.{spin_lock_decode_owner}
 use Rattle.spinlock_validate.proofs.spin_lock_decode_owner.Goals as goal
 

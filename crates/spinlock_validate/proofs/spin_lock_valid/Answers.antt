@@ -1,5 +1,4 @@
 -- Each return is the rule's case that the tests on the way name. Assumes nothing.
-use borrow.Author.Rules.{rules}
 use borrow.Author.Tests.{lt-ltb, le-ltb, eq-eqb, ne_eqb}
 use Rattle.spinlock_validate.specs.Owner.{spin_lock_valid}
 use Rattle.spinlock_validate.proofs.spin_lock_valid.Goals as goal

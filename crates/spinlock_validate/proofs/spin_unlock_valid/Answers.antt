@@ -1,10 +1,6 @@
 -- The two cases of the rule; the sum fits, since the thread word leaves room for the CPU. Assumes nothing.
-use borrow.Author.Rules.{rules}
 use mathlib.Core.Path.{sym, ◌∙◌}
-use native.Mathlib.Omega.{arith}
-use Rattle.words.proofs.Tags.{taggable_says}
-use Rattle.spinlock_validate.specs.Owner.{width_bits, spin_unlock_valid}
-use Rattle.spinlock_validate.proofs.Widths.{word_fits_64}
+use Rattle.spinlock_validate.specs.Owner.{spin_unlock_valid}
 use Rattle.spinlock_validate.proofs.spin_unlock_valid.Goals as goal
 
 pub returns-then-not-taggable : goal.returns-then-not-taggable
