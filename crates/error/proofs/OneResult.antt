@@ -1,11 +1,11 @@
 -- A statement `says r ≡ rule` allows one result, where `says` tells any two results apart. Assumes nothing.
-use mathlib.Core.Path.{◌≡◌, refl, sym, ap, ◌∙◌}
+use mathlib.Core.Path.{◌≡◌, refl, sym, ap, ap₂, ◌∙◌}
 use mathlib.Core.Bool.{cond}
 use lib.Dec.{eqb}
 use lib.IntN.{ℤ, nat_abs, pos-ne-negsuc}
-use Rattle.std.specs.Prelude.{Ok, Err}
+use Rattle.std.specs.Prelude.{Result, Ok, Err}
 use Rattle.error.specs.Codes.{OK, number_of, refusal_number}
-use Rattle.error.specs.Answer.{Answer, says}
+use Rattle.error.specs.Answer.{Answer, answer, says}
 use Rattle.error.specs.declared.Refusal.{Refusal}
 use Rattle.error.specs.declared.Refusal.TheVariants.{Eperm, Enomem, Ebusy, Einval, Edeadlk, Ealready, Eoverflow}
 
@@ -68,3 +68,11 @@ number_apart (Ok a) (Ok b) e = refl
 number_apart (Ok a) (Err why) e = absurd (refusal_is_not_ok why e)
 number_apart (Err why) (Ok b) e = absurd (refusal_is_not_ok why (sym e))
 number_apart (Err c) (Err d) e = ap Err (refusal_number_apart c d e)
+
+-- A result that is a code and a value is told apart by the code's number and the value.
+pub coded_apart : {R A : Type 0} (make : Result (Unit {0}) Refusal → A → R) (code : R → Result (Unit {0}) Refusal) (value : R → A)
+    → ((r : R) → make (code r) (value r) ≡ r) → TellsApart (λ (r : R). answer (number_of (code r)) (value r))
+coded_apart {A = A} make code value whole r s e =
+    sym (whole r)
+    ∙ ap₂ make (number_apart (code r) (code s) (ap (λ (a : Answer A). a.code) e)) (ap (λ (a : Answer A). a.value) e)
+    ∙ whole s

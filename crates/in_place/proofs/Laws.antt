@@ -6,8 +6,8 @@ use mathlib.Core.Bool.{false}
 use Prim.Native.Nat.{ℕ}
 use Rattle.error.specs.Codes.{number_of}
 use Rattle.error.specs.Answer.{answer}
-use Rattle.error.specs.declared.Code.{Code}
-use Rattle.error.specs.declared.Code.TheVariants.{Ok}
+use Rattle.std.specs.Prelude.{Result, Ok}
+use Rattle.error.specs.declared.Refusal.{Refusal}
 use Rattle.error.proofs.OneResult.{number_apart}
 use Rattle.error.proofs.Answers.{same_code, same_value}
 use Rattle.spinlock.specs.Lock.{operate}
@@ -15,7 +15,7 @@ use Rattle.spinlock.specs.declared.SpinlockState.{SpinlockState}
 use Rattle.spinlock.specs.declared.Operation.{Operation}
 use Rattle.spinlock.proofs.Laws.{refused_unchanged}
 
-pub refused_leaves : (op : Operation) (before after : SpinlockState) (tid : ℕ) (code : Code)
-    → answer (number_of code) after ≡ operate op before tid false → (code ≡ Ok → ⊥) → after ≡ before
+pub refused_leaves : (op : Operation) (before after : SpinlockState) (tid : ℕ) (code : Result (Unit {0}) Refusal)
+    → answer (number_of code) after ≡ operate op before tid false → (code ≡ Ok tt → ⊥) → after ≡ before
 refused_leaves op before after tid code e refused =
-    same_value e ∙ refused_unchanged op before tid false (λ done. refused (number_apart code Ok (same_code e ∙ done)))
+    same_value e ∙ refused_unchanged op before tid false (λ done. refused (number_apart code (Ok tt) (same_code e ∙ done)))

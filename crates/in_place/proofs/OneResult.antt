@@ -3,9 +3,10 @@
 use mathlib.Core.Path.{refl}
 use Rattle.error.specs.Codes.{number_of}
 use Rattle.error.specs.Answer.{answer}
-use Rattle.error.specs.declared.Code.{Code}
+use Rattle.std.specs.Prelude.{Result}
+use Rattle.error.specs.declared.Refusal.{Refusal}
 use Rattle.error.proofs.OneResult.{TellsApart, coded_apart}
 use Rattle.spinlock.specs.declared.SpinlockState.{SpinlockState}
 
-pub left_apart : TellsApart (λ (x : Code × SpinlockState). answer (number_of x.0) x.1)
+pub left_apart : TellsApart (λ (x : Result (Unit {0}) Refusal × SpinlockState). answer (number_of x.0) x.1)
 left_apart = coded_apart (λ c s. (c, s)) (λ x. x.0) (λ x. x.1) (λ x. refl)

@@ -12,24 +12,22 @@ ghost use Rattle.error.specs.Codes.{number_of};
 ghost use Rattle.error.specs.Answer.{answer};
 ghost use Rattle.spinlock.specs.Lock.{acquire, release};
 
-use error::Code;
+use error::Refusal;
 use spinlock::SpinlockState;
 
 // Takes a free lock. A held one is busy, for its owner too, unless the acquire is nested: then its owner goes one level deeper, up to the
 // greatest depth.
-pub fn acquire(lock: &mut SpinlockState, tid: u32, nested: bool) -> Code
+pub fn acquire(lock: &mut SpinlockState, tid: u32, nested: bool) -> Result<(), Refusal>
     ensures { answer (number_of result) lock.new ≡ acquire lock.old tid nested }
 {
-    let taken = (*lock).acquire(tid, nested);
-    *lock = taken.state;
-    taken.code
+    *lock = lock.acquire(tid, nested)?;
+    Ok(())
 }
 
 // Gives back one level, for the owner alone.
-pub fn release(lock: &mut SpinlockState, tid: u32) -> Code
+pub fn release(lock: &mut SpinlockState, tid: u32) -> Result<(), Refusal>
     ensures { answer (number_of result) lock.new ≡ release lock.old tid }
 {
-    let released = (*lock).release(tid);
-    *lock = released.state;
-    released.code
+    *lock = lock.release(tid)?;
+    Ok(())
 }

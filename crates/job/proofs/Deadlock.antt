@@ -1,5 +1,6 @@
 -- Self-deadlocks: how a plain acquire is answered on a well-formed machine, by who holds the lock (`plain_answered`). The owner word names the
 -- CPU that its owner runs on, so what spin_lock_valid says of the word it says of the holder. Assumes nothing.
+use Rattle.std.specs.Prelude.{Option, None, Some}
 use mathlib.Core.Path.{◌≡◌, refl, ap, sym, subst, ◌∙◌}
 use mathlib.Core.Bool.{Bool, true, false, not, cond, false≢true}
 use mathlib.Core.List.{List}
@@ -15,14 +16,12 @@ use Rattle.words.specs.Tag.{cpu_of}
 use Rattle.words.proofs.Choice.{and_right}
 use Rattle.spinlock.specs.Table.{code_of}
 use Rattle.spinlock.specs.Lock.{held, after, situation_at}
-use Rattle.spinlock.specs.declared.Owner.{Owner}
 use Rattle.spinlock.specs.declared.Situation.{Situation}
 use Rattle.spinlock.specs.declared.Operation.{Operation as LockOperation}
 use Rattle.spinlock.proofs.Laws.{operated, acquire_of_held, again_of_held}
 use Rattle.order.specs.Outcome.{answer_of}
 use Rattle.machine.specs.State.{thread_count, lock_count, is_thread, tag_bits, names, cpu_at, lock_at}
 use Rattle.machine.specs.declared.ThreadId.{ThreadId}
-use Rattle.machine.specs.declared.Current.{Current}
 use Rattle.machine.specs.declared.Machine.{Machine}
 use Rattle.record.specs.Record.{request_of}
 use Rattle.record.specs.declared.Operation.{Operation}
@@ -52,10 +51,10 @@ module _ (m : Machine) (w : WellFormed m) (c l : ℕ) (hc : c < m.setup.n) (hl :
   depth = (lock_at m l).state.nest_count
 
   -- What thread u's plain acquire comes to, by the lock's owner.
-  abbrev Settles : ℕ → Owner → Bool → Type 0
+  abbrev Settles : ℕ → Option ℕ → Bool → Type 0
   Settles u o itself = answer_of (settled m.setup c u (lock_at m l) (ruled m.setup plain c u (lock_at m l))) ≡ by_owner o itself depth
 
-  free_taken : (u : ℕ) → (lock_at m l).state.owner ≡ Owner.None → Settles u Owner.None (names m.setup (lock_at m l).word c)
+  free_taken : (u : ℕ) → (lock_at m l).state.owner ≡ None → Settles u None (names m.setup (lock_at m l).word c)
   unfolding situation_at code_of after
   free_taken u none =
       let unnamed : names m.setup (lock_at m l).word c ≡ false = rw ((w.locks l hl).free none).word in
@@ -63,28 +62,28 @@ module _ (m : Machine) (w : WellFormed m) (c l : ℕ) (hc : c < m.setup.n) (hl :
       let rule = operated plain (lock_at m l).state u away {sit = Situation.Free} (lock_is_valid m w l hl) (rw none) in
       rw (again_names ∙ unnamed, rule)
 
-  held_refused : (u t : ℕ) → (lock_at m l).state.owner ≡ Owner.Thread t → (itself : Bool) → names m.setup (lock_at m l).word c ≡ itself
-      → Settles u (Owner.Thread t) itself
+  held_refused : (u t : ℕ) → (lock_at m l).state.owner ≡ Some t → (itself : Bool) → names m.setup (lock_at m l).word c ≡ itself
+      → Settles u (Some t) itself
   held_refused u t owned true named = rw (again_names ∙ named, again_of_held (lock_at m l).state u (lock_is_valid m w l hl) (ap held owned))
   held_refused u t owned false other =
       let away = elsewhere m.setup c u (lock_at m l) in
       rw (again_names ∙ other, acquire_of_held (lock_at m l).state u away (lock_is_valid m w l hl) (ap held owned))
 
-  of_owner : (u : ℕ) (o : Owner) → (lock_at m l).state.owner ≡ o → Settles u o (names m.setup (lock_at m l).word c)
-  of_owner u Owner.None none = free_taken u none
-  of_owner u (Owner.Thread t) owned = held_refused u t owned (names m.setup (lock_at m l).word c) refl
+  of_owner : (u : ℕ) (o : Option ℕ) → (lock_at m l).state.owner ≡ o → Settles u o (names m.setup (lock_at m l).word c)
+  of_owner u None none = free_taken u none
+  of_owner u (Some t) owned = held_refused u t owned (names m.setup (lock_at m l).word c) refl
 
-  of_current : (o : Current) → (cpu_at m c).run.current ≡ o
+  of_current : (o : Option ThreadId) → (cpu_at m c).run.current ≡ o
       → answer_of (lock_by m.setup plain c o (lock_at m l))
       ≡ by_current o depth (by_owner (lock_at m l).state.owner (names m.setup (lock_at m l).word c) depth)
-  of_current Current.None idle = refl
-  of_current (Current.Thread u) runs =
+  of_current None idle = refl
+  of_current (Some u) runs =
       let below = ((w.seats.cpus c (omega (arith, hc, w.size.few))).current u runs).below in
       let there : is_thread u.0 ≡ true = lt-ltb u.0 thread_count below in
       rw there (of_owner u.0 (lock_at m l).state.owner refl)
 
 -- The CPU that a held lock's word names holds it.
-word_holds : (m : Machine) → WellFormed m → (l t : ℕ) → l < lock_count → (lock_at m l).state.owner ≡ Owner.Thread t
+word_holds : (m : Machine) → WellFormed m → (l t : ℕ) → l < lock_count → (lock_at m l).state.owner ≡ Some t
     → Holds m (cpu_of (tag_bits m.setup) (lock_at m l).word) l
 word_holds m w l t hl owned =
     record { thread = t; owner = owned; holder = record { thread = ((w.locks l hl).held t owned).current; cpu = refl } }
@@ -137,7 +136,7 @@ module _ (m : Machine) (formed : well_formed m ≡ true) (bytes : List ℕ) wher
   word_cpu = cpu_of (tag_bits m.setup) (lock_at m lock).word
 
   -- Of a lock with this owner: who is told EDEADLK holds it, and who is told EBUSY does not.
-  module _ (t : ℕ) (owned : (lock_at m lock).state.owner ≡ Owner.Thread t) where
+  module _ (t : ℕ) (owned : (lock_at m lock).state.owner ≡ Some t) where
     held_by_word : Holds m word_cpu lock
     held_by_word = let w = says m formed in word_holds m w lock t (asks_in_range m w bytes).lock owned
 
@@ -154,11 +153,11 @@ module _ (m : Machine) (formed : well_formed m ≡ true) (bytes : List ℕ) wher
         false≢true (sym e ∙ rw (ne_eqb (lock_at m lock).word 0 some, eq-eqb word_cpu cpu same))
 
   -- By who runs on the CPU and who owns the lock.
-  deadlock_by : (o : Current) (p : Owner) → (lock_at m lock).state.owner ≡ p
+  deadlock_by : (o : Option ThreadId) (p : Option ℕ) → (lock_at m lock).state.owner ≡ p
       → (by_current o (lock_at m lock).state.nest_count (by_owner p named (lock_at m lock).state.nest_count)).code ≡ EDEADLK → Holds m cpu lock
-  deadlock_by Current.None p e code = absurd (false≢true (ap is_deadlock code))
-  deadlock_by (Current.Thread u) Owner.None e code = absurd (false≢true (ap is_deadlock code))
-  deadlock_by (Current.Thread u) (Owner.Thread t) e code = deadlocked t e named refl code
+  deadlock_by None p e code = absurd (false≢true (ap is_deadlock code))
+  deadlock_by (Some u) None e code = absurd (false≢true (ap is_deadlock code))
+  deadlock_by (Some u) (Some t) e code = deadlocked t e named refl code
 
   -- Who is told EDEADLK asked for a lock that it holds itself.
   pub deadlock_holds : (answered m bytes).code ≡ EDEADLK → Holds m cpu lock
@@ -166,12 +165,12 @@ module _ (m : Machine) (formed : well_formed m ≡ true) (bytes : List ℕ) wher
       let answer = plain_answered (deadlock_is_plain dead) in
       deadlock_by (cpu_at m cpu).run.current (lock_at m lock).state.owner refl (sym (same_code answer) ∙ dead)
 
-  busy_by : (o : Current) (p : Owner) → (lock_at m lock).state.owner ≡ p
+  busy_by : (o : Option ThreadId) (p : Option ℕ) → (lock_at m lock).state.owner ≡ p
       → (by_current o (lock_at m lock).state.nest_count (by_owner p named (lock_at m lock).state.nest_count)).code ≡ EBUSY
       → HeldByAnother m cpu lock
-  busy_by Current.None p e code = absurd (false≢true (ap is_busy code))
-  busy_by (Current.Thread u) Owner.None e code = absurd (false≢true (ap is_busy code))
-  busy_by (Current.Thread u) (Owner.Thread t) e code =
+  busy_by None p e code = absurd (false≢true (ap is_busy code))
+  busy_by (Some u) None e code = absurd (false≢true (ap is_busy code))
+  busy_by (Some u) (Some t) e code =
       record { cpu = word_cpu; other = contended t e named refl code; holds = held_by_word t e }
 
   -- Whose plain acquire is told EBUSY asked for a lock that another CPU holds.
@@ -189,6 +188,6 @@ module _ (m : Machine) (formed : well_formed m ≡ true) (bytes : List ℕ) wher
 
   -- So a plain acquire of it is answered, to a CPU that has a thread.
   pub held_answered : asked.operation ≡ Operation.OnLock plain → (c : ℕ) → Holds m c lock → (u : ThreadId)
-      → (cpu_at m cpu).run.current ≡ Current.Thread u
+      → (cpu_at m cpu).run.current ≡ Some u
       → answered m bytes ≡ answer (cond (eqb c cpu) EDEADLK EBUSY) (lock_at m lock).state.nest_count
   held_answered asks c holds u runs = plain_answered asks ∙ rw (runs, holds.owner, names_holder c holds)

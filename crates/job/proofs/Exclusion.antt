@@ -1,5 +1,7 @@
 -- Exclusion: while a lock is held by a thread on a CPU, a plain acquire of it is refused for everyone, and a nested acquire or a release is
 -- accepted from that thread on that CPU alone. Assumes nothing.
+use Rattle.std.specs.Prelude.{Option, None, Some}
+use Rattle.machine.specs.declared.ThreadId.{ThreadId}
 use mathlib.Core.Path.{◌≡◌, refl, ap, sym, ◌∙◌}
 use mathlib.Core.Bool.{Bool, true, false, cond, false≢true}
 use mathlib.Core.List.{List}
@@ -8,7 +10,6 @@ use Rattle.error.specs.Codes.{EINVAL, is_ok}
 use Rattle.error.specs.Answer.{Answer}
 use Rattle.words.proofs.Choice.{bool_ind}
 use Rattle.spinlock.specs.Lock.{free_record, valid_record, held, operate, acquire_again}
-use Rattle.spinlock.specs.declared.Owner.{Owner}
 use Rattle.spinlock.specs.declared.SpinlockState.{SpinlockState}
 use Rattle.spinlock.specs.declared.Operation.{Operation as LockOperation}
 use Rattle.spinlock.proofs.Situations.{HeldBy}
@@ -17,7 +18,6 @@ use Rattle.order.specs.Outcome.{Outcome, refuse, accept, answer_of}
 use Rattle.machine.specs.State.{lock_count, is_thread, cpu_at, lock_at}
 use Rattle.machine.specs.declared.CpuId.{CpuId}
 use Rattle.machine.specs.declared.LockId.{LockId}
-use Rattle.machine.specs.declared.Current.{Current}
 use Rattle.machine.specs.declared.Setup.{Setup}
 use Rattle.machine.specs.declared.Lock.{Lock}
 use Rattle.machine.specs.declared.Machine.{Machine}
@@ -35,7 +35,7 @@ use Rattle.kept.proofs.Ranges.{asks_in_range}
 use Rattle.job.specs.Job.{Holder, Accepted}
 
 module _ (m : Machine) (w : WellFormed m) (d l t : ℕ) (hd : d < m.setup.n) (hl : l < lock_count)
-    (owned : (lock_at m l).state.owner ≡ Owner.Thread t) where
+    (owned : (lock_at m l).state.owner ≡ Some t) where
   not_free : (lock_at m l).state ≡ free_record → ⊥
   not_free e = none_or_owner (sym (ap (λ (x : SpinlockState). x.owner) e) ∙ owned)
 
@@ -82,10 +82,10 @@ ruled_refuses s c t k taken =
     bool_ind (λ b. is_ok (cond b (acquire_again k.state t) plain).code ≡ false) (again s (LockOperation.Acquire false) c k.word)
     (λ _. again_refuses k.state t taken) (λ _. record_refuses k.state t (elsewhere s c t k) taken)
 
-rule_refuses : (s : Setup) (c : ℕ) (current : Current) (k : Lock) → held k.state.owner ≡ true
+rule_refuses : (s : Setup) (c : ℕ) (current : Option ThreadId) (k : Lock) → held k.state.owner ≡ true
     → is_ok (answer_of (lock_by s (LockOperation.Acquire false) c current k)).code ≡ false
-rule_refuses s c Current.None k taken = refl
-rule_refuses s c (Current.Thread t) k taken =
+rule_refuses s c None k taken = refl
+rule_refuses s c (Some t) k taken =
     let no_Ok = ruled_refuses s c t.0 k taken in
     let settles = settled s c t.0 k (ruled s (LockOperation.Acquire false) c t.0 k) in
     bool_ind (λ exists. is_ok (answer_of (cond exists settles (refused EINVAL k.state.nest_count))).code ≡ false) (is_thread t.0)
@@ -110,7 +110,7 @@ acquire_refused m bytes d l taken asks =
 -- Lock l is held by thread t. Whoever has a call of it accepted is t, on the CPU that the lock's word names. (A call of a lock uses no thread:
 -- its number z is any.)
 module _ (m : Machine) (good : well_formed m ≡ true) (bytes : List ℕ) (d : CpuId) (l : LockId) (t : ℕ)
-    (owned : (lock_at m l.0).state.owner ≡ Owner.Thread t) where
+    (owned : (lock_at m l.0).state.owner ≡ Some t) where
   -- Whatever the operation.
   pub called_by_holder : (op : LockOperation) {z : ℕ} → Accepted m bytes (request (Operation.OnLock op) d.0 z l.0) → Holder m l.0 d.0 t
   unfolding answered

@@ -1,5 +1,6 @@
 -- No inheritance: a thread that has no place and a CPU that has no thread own no lock at any depth. So the thread that was just taken off a
 -- CPU leaves none behind, and the thread that was just put there finds none. Assumes nothing.
+use Rattle.std.specs.Prelude.{Option, None, Some}
 use mathlib.Core.Path.{◌≡◌, refl, ap, sym, ◌∙◌}
 use mathlib.Core.Logic.{◌≢◌}
 use mathlib.Core.Bool.{Bool, true, false, ◌&&◌, ◌||◌, not, cond, false≢true}
@@ -13,10 +14,7 @@ use Rattle.error.specs.Answer.{Answer}
 use Rattle.words.specs.Bit.{bit}
 use Rattle.words.specs.Tag.{cpu_of, thread_of}
 use Rattle.words.proofs.Tags.{word_thread, thread_nonzero, thread_alone}
-use Rattle.spinlock.specs.declared.Owner.{Owner}
 use Rattle.machine.specs.State.{cpu_slots, thread_count, lock_count, tag_bits, thread_word, names, is_current, cpu_at, thread_at, lock_at}
-use Rattle.machine.specs.declared.Current.{Current}
-use Rattle.machine.specs.declared.Place.{Place}
 use Rattle.machine.specs.declared.Run.{Run}
 use Rattle.machine.specs.declared.Cpu.{Cpu}
 use Rattle.machine.specs.declared.Thread.{Thread}
@@ -48,9 +46,9 @@ use Rattle.kept.proofs.Ranges.{asks_in_range}
 use Rattle.job.specs.Job.{OwnsNothing, HoldsNothing, Accepted}
 
 -- A lock is free, or some thread's.
-pub owner_cases : (A : Type 0) (o : Owner) → (o ≡ Owner.None → A) → ((t : ℕ) → o ≡ Owner.Thread t → A) → A
-owner_cases A Owner.None none some = none refl
-owner_cases A (Owner.Thread t) none some = some t refl
+pub owner_cases : (A : Type 0) (o : Option ℕ) → (o ≡ None → A) → ((t : ℕ) → o ≡ Some t → A) → A
+owner_cases A None none some = none refl
+owner_cases A (Some t) none some = some t refl
 
 sum_of_zeros : (f : ℕ → ℕ) (k : ℕ) → ((i : ℕ) → i < k → f i ≡ 0) → sum_below f k ≡ 0
 unfolding sum_below
@@ -62,11 +60,11 @@ sum_of_zeros f (suc k) zeros =
 
 module _ (m : Machine) (w : WellFormed m) where
   -- The owner of a lock has a place.
-  owner_placed : (l : ℕ) → l < lock_count → (t : ℕ) → (lock_at m l).state.owner ≡ Owner.Thread t → (thread_at m t).place ≢ Place.Nowhere
+  owner_placed : (l : ℕ) → l < lock_count → (t : ℕ) → (lock_at m l).state.owner ≡ Some t → (thread_at m t).place ≢ None
   owner_placed l h t e nowhere = nowhere_or_on (sym nowhere ∙ (owner_carried m w l h t e).place)
 
   -- The thread word in a lock's word is its owner's.
-  pub owner_word : (l : ℕ) → l < lock_count → (t : ℕ) → (lock_at m l).state.owner ≡ Owner.Thread t
+  pub owner_word : (l : ℕ) → l < lock_count → (t : ℕ) → (lock_at m l).state.owner ≡ Some t
       → thread_of (tag_bits m.setup) (lock_at m l).word ≡ thread_word m.setup t
   owner_word l h t e =
       let k = tag_bits m.setup in
@@ -74,7 +72,7 @@ module _ (m : Machine) (w : WellFormed m) where
       ap (thread_of k) was.word ∙ word_thread k (cpu_of k (lock_at m l).word) t (cpu_fits m w _ was.below)
 
   -- A thread that has no place owns no lock.
-  pub no_place : (t : ℕ) → (thread_at m t).place ≡ Place.Nowhere → OwnsNothing m t
+  pub no_place : (t : ℕ) → (thread_at m t).place ≡ None → OwnsNothing m t
   no_place t nowhere =
       record {
         owner = λ l h e. owner_placed l h t e nowhere;
@@ -86,7 +84,7 @@ module _ (m : Machine) (w : WellFormed m) where
       }
 
   -- A CPU that has no thread holds no lock.
-  without_thread : (c : ℕ) → (cpu_at m c).run.current ≡ Current.None → (l : ℕ) → l < lock_count → names m.setup (lock_at m l).word c ≡ false
+  without_thread : (c : ℕ) → (cpu_at m c).run.current ≡ None → (l : ℕ) → l < lock_count → names m.setup (lock_at m l).word c ≡ false
   without_thread c idle l h =
       owner_cases (names m.setup (lock_at m l).word c ≡ false) (lock_at m l).state.owner
       (λ none. rw ((w.locks l h).free none).word)
@@ -98,7 +96,7 @@ module _ (m : Machine) (w : WellFormed m) where
       and_false true b e = e
       and_false false b e = refl
 
-  pub no_current : (c : ℕ) → c < cpu_slots → (cpu_at m c).run.current ≡ Current.None → HoldsNothing m c
+  pub no_current : (c : ℕ) → c < cpu_slots → (cpu_at m c).run.current ≡ None → HoldsNothing m c
   no_current c h idle =
       record {
         word = without_thread c idle;
@@ -143,9 +141,9 @@ module _ (m : Machine) (s : Lengths m) (w : WellFormed m) (c t : ℕ) (hc : c < 
   taken_off : (v : Run × Thread) → Takes t (cpu_at m c).hold (cpu_at m c).run (thread_at m t) v → Nothing c t (reseated m c t v.0 v.1)
   taken_off v e =
       let then : WellFormed (reseated m c t v.0 v.1) = take_kept m s w c t hc ht v e in
-      let nowhere : (thread_at (reseated m c t v.0 v.1) t).place ≡ Place.Nowhere =
+      let nowhere : (thread_at (reseated m c t v.0 v.1) t).place ≡ None =
       ap (λ (x : Thread). x.place) (thread_there m s t v.1 ht) ∙ ap (λ (x : Run × Thread). x.1.place) e.is in
-      let idle : (cpu_at (reseated m c t v.0 v.1) c).run.current ≡ Current.None =
+      let idle : (cpu_at (reseated m c t v.0 v.1) c).run.current ≡ None =
       ap (λ (x : Cpu). x.run.current) (cpu_there m s c _ inside) ∙ ap (λ (x : Run × Thread). x.0.current) e.is in
       (no_place _ then t nowhere, no_current _ then c inside idle)
 

@@ -1,5 +1,6 @@
 -- The stopped job. On a well-formed machine where thread t is current on CPU c, an unwind is accepted and says what the CPU held; afterwards
 -- neither has anything, what is others' is as it was, the thread can be taken off, and whoever is put there next finds nothing. Assumes nothing.
+use Rattle.std.specs.Prelude.{Some}
 use mathlib.Core.Path.{◌≡◌, sym, ap, ◌∙◌}
 use mathlib.Core.Logic.{◌≢◌}
 use mathlib.Core.Bool.{true, false, false≢true}
@@ -11,7 +12,6 @@ use Rattle.error.specs.Codes.{is_ok}
 use Rattle.error.specs.Answer.{Answer}
 use Rattle.words.specs.Tag.{cpu_of, thread_of}
 use Rattle.words.proofs.Tags.{thread_nonzero, thread_alone}
-use Rattle.spinlock.specs.declared.Owner.{Owner}
 use Rattle.order.specs.Outcome.{Outcome, answer_of}
 use Rattle.machine.specs.State.{lock_count, tag_bits, thread_word, names, is_current, cpu_at, thread_at, lock_at}
 use Rattle.machine.specs.declared.Setup.{Setup}
@@ -42,7 +42,7 @@ use Rattle.job.proofs.NoInheritance.{owner_cases, owner_word}
 
 -- The thread of a CPU that holds nothing owns nothing: it runs nowhere else.
 module _ (m : Machine) (w : WellFormed m) (c t : ℕ) (hc : c < m.setup.n) (runs : Runs m c t) (none : HoldsNothing m c) where
-  no_owner : (l : ℕ) → l < lock_count → (lock_at m l).state.owner ≢ Owner.Thread t
+  no_owner : (l : ℕ) → l < lock_count → (lock_at m l).state.owner ≢ Some t
   no_owner l h owned =
       let word = (lock_at m l).word in
       let cpu = named m w c l t hc h runs owned in

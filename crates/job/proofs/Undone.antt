@@ -1,5 +1,7 @@
 -- Nothing is lost: a release right after an accepted acquire of either kind by the same CPU is accepted, and the machine is the one before
 -- the two. Assumes nothing.
+use Rattle.std.specs.Prelude.{Option, None, Some}
+use Rattle.machine.specs.declared.ThreadId.{ThreadId}
 use mathlib.Core.Path.{◌≡◌, refl, ap, ap₂, sym, ◌∙◌}
 use mathlib.Core.Bool.{Bool, true, false, false≢true}
 use mathlib.Core.List.{List, [], ◌∷◌}
@@ -15,7 +17,6 @@ use Rattle.spinlock_validate.proofs.Laws.{Makes, makes, unlock_own}
 use Rattle.error.proofs.Answers.{same_value}
 use Rattle.spinlock.specs.Table.{code_of}
 use Rattle.spinlock.specs.Lock.{max_nest_depth, free_record, taken_by, deeper, valid_record, situation_at, after, operate}
-use Rattle.spinlock.specs.declared.Owner.{Owner}
 use Rattle.spinlock.specs.declared.SpinlockState.{SpinlockState}
 use Rattle.spinlock.specs.declared.Operation.{Operation as LockOperation}
 use Rattle.spinlock.proofs.Situations.{HeldBy, below_is_own}
@@ -23,7 +24,6 @@ use Rattle.spinlock.proofs.Laws.{operated, release_undoes, acquire_then_release}
 use Rattle.order.specs.Outcome.{Outcome, refuse, accept, answer_of}
 use Rattle.order.specs.Cells.{commit}
 use Rattle.machine.specs.State.{cpu_slots, thread_count, lock_count, is_thread, tag_bits, thread_word, no_cpu, free_lock, cpu_at, lock_at}
-use Rattle.machine.specs.declared.Current.{Current}
 use Rattle.machine.specs.declared.CpuId.{CpuId}
 use Rattle.machine.specs.declared.LockId.{LockId}
 use Rattle.machine.specs.declared.Run.{Run}
@@ -82,7 +82,7 @@ module _ (m : Machine) (w : WellFormed m) (c l t : ℕ) (hc : c < m.setup.n) (hl
       gives : settled m.setup c t v (ruled m.setup LockOperation.Release c t v) ≡ accept (answer OK (lock_at m l).state.nest_count) (lock_at m l)
       gives = rw (here v word, rule, after-word)
 
-      of_current : (o : Current) → o ≡ Current.Thread (record { 0 = t })
+      of_current : (o : Option ThreadId) → o ≡ Some (record { 0 = t })
           → lock_by m.setup LockOperation.Release c o v ≡ accept (answer OK (lock_at m l).state.nest_count) (lock_at m l)
       of_current o e = rw (e, t_is_thread) gives
 
@@ -90,7 +90,7 @@ module _ (m : Machine) (w : WellFormed m) (c l t : ℕ) (hc : c < m.setup.n) (hl
   taken : (lock_at m l).state ≡ free_record → Undone m c l (leaves m.setup c t (lock_at m l) (taken_by t))
   unfolding operate valid_record situation_at code_of after
   taken e =
-      let none : (lock_at m l).state.owner ≡ Owner.None = ap (λ (x : SpinlockState). x.owner) e in
+      let none : (lock_at m l).state.owner ≡ None = ap (λ (x : SpinlockState). x.owner) e in
       let made : word_after m.setup c t (lock_at m l) (taken_by t) ≡ ours = rw none (same_value ours_made) in
       released _ made ((acquire_then_release t).1 ∙ ap (answer OK) (sym e)) (rw none (sym ((w.locks l hl).free none).word))
 

@@ -1,4 +1,7 @@
 -- What it takes for a rule on run cells and threads to accept, and what it then hands back. Assumes nothing.
+use Rattle.std.specs.Prelude.{Option, None, Some}
+use Rattle.machine.specs.declared.ThreadId.{ThreadId}
+use Rattle.machine.specs.declared.CpuId.{CpuId}
 use mathlib.Core.Path.{◌≡◌, refl, sym, ap, ◌∙◌}
 use mathlib.Core.Bool.{Bool, true, false, ◌&&◌, ◌||◌, not, cond, false≢true}
 use Prim.Native.Nat.{ℕ, ◌^◌, ◌<◌}
@@ -16,8 +19,6 @@ use Rattle.cpu_mask.specs.Mask.{mask_bits, new_mask, validate_pin_mask, bits_bel
 use Rattle.cpu_mask.proofs.Laws.{pin_succeeds, pin_leaves}
 use Rattle.order.specs.Outcome.{Outcome, refuse, accept}
 use Rattle.machine.specs.State.{is_current, idle_run}
-use Rattle.machine.specs.declared.Current.{Current}
-use Rattle.machine.specs.declared.Place.{Place}
 use Rattle.machine.specs.declared.Setup.{Setup}
 use Rattle.machine.specs.declared.Run.{Run}
 use Rattle.machine.specs.declared.Thread.{Thread}
@@ -48,13 +49,13 @@ abbrev pub Accepting : {A W : Type 0} → (W → Type 0) → Outcome A W → Typ
 Accepting Q (refuse a) = Unit {0}
 Accepting Q (accept a v) = Q v
 
-not_occupied : (current : Current) → occupied current ≡ false → current ≡ Current.None
-not_occupied Current.None e = refl
-not_occupied (Current.Thread t) e = absurd (false≢true (sym e))
+not_occupied : (current : Option ThreadId) → occupied current ≡ false → current ≡ None
+not_occupied None e = refl
+not_occupied (Some t) e = absurd (false≢true (sym e))
 
-not_placed : (place : Place) → placed place ≡ false → place ≡ Place.Nowhere
-not_placed Place.Nowhere e = refl
-not_placed (Place.On c) e = absurd (false≢true (sym e))
+not_placed : (place : Option CpuId) → placed place ≡ false → place ≡ None
+not_placed None e = refl
+not_placed (Some c) e = absurd (false≢true (sym e))
 
 neither_left : (a b : Bool) → a || b ≡ false → a ≡ false
 neither_left true b e = e
@@ -84,7 +85,7 @@ up_accepted r = past (Ups r) r.active _ _ (λ down. record { down = down; is = r
 
 -- Down: the CPU had no thread, and is then down.
 pub record Downs (r v : Run) : Type 0 where
-  pub idle : r.current ≡ Current.None
+  pub idle : r.current ≡ None
   pub is : v ≡ idle_run false
 
 pub down_accepted : (r : Run) → Accepting (Downs r) (down r)
@@ -96,8 +97,8 @@ down_accepted r =
 -- Put: the CPU was active and had no thread, the thread had no place, and its mask allows the CPU.
 pub record Puts (c t : ℕ) (r : Run) (k : Thread) (v : Run × Thread) : Type 0 where
   pub active : r.active ≡ true
-  pub idle : r.current ≡ Current.None
-  pub nowhere : k.place ≡ Place.Nowhere
+  pub idle : r.current ≡ None
+  pub nowhere : k.place ≡ None
   pub allowed : bit c k.mask ≡ true
   pub is : v ≡ seated c t r k
 
@@ -117,7 +118,7 @@ put_accepted c t r k =
 
 -- Take: the thread was the CPU's, which held no lock.
 pub record Takes (t h : ℕ) (r : Run) (k : Thread) (v : Run × Thread) : Type 0 where
-  pub runs : r.current ≡ Current.Thread (record { 0 = t })
+  pub runs : r.current ≡ Some (record { 0 = t })
   pub none : h ≡ 0
   pub is : v ≡ unseated k
 
@@ -134,14 +135,14 @@ take_accepted t h r k =
 
 -- Mask and pin: the thread had no place; with pin-only the new mask has one bit, below n. Priority: it had no place.
 pub record Masks (s : Setup) (k v : Thread) : Type 0 where
-  pub nowhere : k.place ≡ Place.Nowhere
+  pub nowhere : k.place ≡ None
   pub mask : Pinned s v.mask
   pub priority : v.priority ≡ k.priority
   pub place : v.place ≡ k.place
 
 -- What an answer that is settled on a thread has to show, where its code is OK.
 record Settles (s : Setup) (k : Thread) (bits : ℕ) : Type 0 where
-  pub nowhere : k.place ≡ Place.Nowhere
+  pub nowhere : k.place ≡ None
   pub mask : Pinned s bits
 
 remasked_accepted : (s : Setup) (k : Thread) (a : Answer ℕ) → (is_ok a.code ≡ true → Settles s k a.value) → Accepting (Masks s k) (remasked k a)
@@ -154,7 +155,7 @@ remasked_accepted s k a settles =
 
 -- The mask rule, where its code is OK: the thread had no place, and its value is the new mask, with one bit if pin-only.
 record Ruled (pinOnly : Bool) (k : Thread) (new value : ℕ) : Type 0 where
-  pub nowhere : k.place ≡ Place.Nowhere
+  pub nowhere : k.place ≡ None
   pub is : value ≡ new
   pub one : pinOnly ≡ true → ones value ≡ 1
 
@@ -208,7 +209,7 @@ pin_accepted s c own fits k =
     record { nowhere = ruled.nowhere; mask = record { one = ruled.one; below = λ _. rw left (pow-lt own) } })
 
 pub record Priorities (a : ℤ) (k v : Thread) : Type 0 where
-  pub nowhere : k.place ≡ Place.Nowhere
+  pub nowhere : k.place ≡ None
   pub is : v ≡ record { mask = k.mask; priority = a; place = k.place }
 
 pub priority_accepted : (a : ℤ) (k : Thread) → Accepting (Priorities a k) (priority a k)

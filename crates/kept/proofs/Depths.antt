@@ -1,4 +1,6 @@
 -- What a lock adds to a CPU's hold. Assumes nothing.
+use Rattle.std.specs.Prelude.{Option, None, Some}
+use Rattle.machine.specs.declared.ThreadId.{ThreadId}
 use mathlib.Core.Path.{◌≡◌, refl, sym, ◌∙◌}
 use mathlib.Core.Bool.{◌&&◌, not, cond}
 use Prim.Native.Nat.{ℕ, ◌≤◌, ◌<◌}
@@ -9,9 +11,7 @@ use Rattle.words.specs.Tag.{cpu_of}
 use Rattle.words.proofs.Choice.{bool_ind}
 use Rattle.words.proofs.Tags.{word_nonzero}
 use Rattle.spinlock.specs.Lock.{max_nest_depth}
-use Rattle.spinlock.specs.declared.Owner.{Owner}
 use Rattle.machine.specs.State.{cpu_slots, lock_count, tag_bits, names, cpu_at, lock_at}
-use Rattle.machine.specs.declared.Current.{Current}
 use Rattle.machine.specs.declared.Lock.{Lock}
 use Rattle.machine.specs.declared.Setup.{Setup}
 use Rattle.machine.specs.declared.Machine.{Machine}
@@ -36,7 +36,7 @@ depth_other s k c other =
     (λ _. rw (ne_eqb (cpu_of (tag_bits s) k.word) c other))
 
 -- A held lock has a word.
-pub held_word : (s : Setup) {o : Current} (k : Lock) (t : ℕ) → HeldLock s o k t → k.word ≡ 0 → ⊥
+pub held_word : (s : Setup) {o : Option ThreadId} (k : Lock) (t : ℕ) → HeldLock s o k t → k.word ≡ 0 → ⊥
 held_word s k t h e = word_nonzero (tag_bits s) (cpu_of (tag_bits s) k.word) t (sym h.word ∙ e)
 
 -- No lock adds more than 255.
@@ -45,9 +45,9 @@ depth_most m w l c h =
     bool_ind (λ b. cond b (lock_at m l).state.nest_count 0 ≤ max_nest_depth) (names m.setup (lock_at m l).word c)
     (λ _. go (lock_at m l).state.owner refl) (λ _. omega arith)
   where
-    go : (o : Owner) → (lock_at m l).state.owner ≡ o → (lock_at m l).state.nest_count ≤ max_nest_depth
-    go Owner.None e = omega (arith, ((w.locks l h).free e).depth)
-    go (Owner.Thread t) e = ((w.locks l h).held t e).most
+    go : (o : Option ℕ) → (lock_at m l).state.owner ≡ o → (lock_at m l).state.nest_count ≤ max_nest_depth
+    go None e = omega (arith, ((w.locks l h).free e).depth)
+    go (Some t) e = ((w.locks l h).held t e).most
 
 -- So a hold is far below 2 ^ 32.
 pub hold_most : (m : Machine) → WellFormed m → (c : ℕ) → c < cpu_slots → (cpu_at m c).hold < 0xffff_ffff

@@ -1,13 +1,12 @@
 -- How each fact is kept, by the cells that change. A cell that is stored has to be a good one; a cell that stays is still good if no cell that it
 -- names is stored: a CPU names its current thread, a thread its place, and a held lock the CPU of its word. Assumes nothing.
+use Rattle.std.specs.Prelude.{Option, None, Some}
+use Rattle.machine.specs.declared.ThreadId.{ThreadId}
 use mathlib.Core.Path.{◌≡◌, sym, ap, ◌∙◌}
 use Prim.Native.Nat.{ℕ, ◌<◌}
 use native.Mathlib.Omega.{arith}
 use Rattle.words.specs.Tag.{cpu_of}
-use Rattle.spinlock.specs.declared.Owner.{Owner}
 use Rattle.machine.specs.State.{cpu_slots, thread_count, lock_count, tag_bits}
-use Rattle.machine.specs.declared.Current.{Current}
-use Rattle.machine.specs.declared.Place.{Place}
 use Rattle.machine.specs.declared.Run.{Run}
 use Rattle.machine.specs.declared.Thread.{Thread}
 use Rattle.machine.specs.declared.Lock.{Lock}
@@ -20,19 +19,19 @@ use Rattle.kept.proofs.Stored.{Stored, everywhere, part}
 
 -- A thread that is not the CPU's current one gets another cell.
 still_cpu : {s : Setup} {thread thread' : ℕ → Thread} {t c : ℕ} {k : Thread} {r : Run} → Stored thread thread' t k → GoodCpu s thread c r
-    → (r.current ≡ Current.Thread (record { 0 = t }) → ⊥) → GoodCpu s thread' c r
+    → (r.current ≡ Some (record { 0 = t }) → ⊥) → GoodCpu s thread' c r
 still_cpu {t = t} threads old other =
     record {
       down = old.down;
       current = λ u runs.
-          let away : u.0 ≡ t → ⊥ = λ e. other (runs ∙ ap (λ (i : ℕ). Current.Thread (record { 0 = i })) e) in
+          let away : u.0 ≡ t → ⊥ = λ e. other (runs ∙ ap (λ (i : ℕ). Some (record { 0 = i })) e) in
           rw (threads.elsewhere u.0 away) (old.current u runs);
       idle = old.idle;
     }
 
 -- A CPU on which the thread is not current gets another current thread.
-still_thread : {s : Setup} {current current' : ℕ → Current} {c t : ℕ} {o : Current} {k : Thread} → Stored current current' c o
-    → GoodThread s current t k → (current c ≡ Current.Thread (record { 0 = t }) → ⊥) → GoodThread s current' t k
+still_thread : {s : Setup} {current current' : ℕ → Option ThreadId} {c t : ℕ} {o : Option ThreadId} {k : Thread} → Stored current current' c o
+    → GoodThread s current t k → (current c ≡ Some (record { 0 = t }) → ⊥) → GoodThread s current' t k
 still_thread {current = current} currents old other =
     record {
       place = λ d placed.
@@ -43,7 +42,7 @@ still_thread {current = current} currents old other =
 
 module _ {s : Setup} {run : ℕ → Run} {thread : ℕ → Thread} (old : Seats s run thread) where
   -- A CPU that had no thread gets another run cell.
-  pub seats_after_run : {run' : ℕ → Run} {c : ℕ} {r : Run} → Stored run run' c r → GoodCpu s thread c r → (run c).current ≡ Current.None
+  pub seats_after_run : {run' : ℕ → Run} {c : ℕ} {r : Run} → Stored run run' c r → GoodCpu s thread c r → (run c).current ≡ None
       → Seats s run' thread
   seats_after_run runs good idle =
       record {
@@ -53,7 +52,7 @@ module _ {s : Setup} {run : ℕ → Run} {thread : ℕ → Thread} (old : Seats 
 
   -- A thread that had no place gets another cell.
   pub seats_after_thread : {thread' : ℕ → Thread} {t : ℕ} {k : Thread} → Stored thread thread' t k → GoodThread s (λ c. (run c).current) t k
-      → (thread t).place ≡ Place.Nowhere → Seats s run thread'
+      → (thread t).place ≡ None → Seats s run thread'
   seats_after_thread threads good nowhere =
       record {
         cpus = λ c b. still_cpu threads (old.cpus c b) (λ now. nowhere_or_on (sym nowhere ∙ ((old.cpus c b).current _ now).place));
@@ -63,8 +62,8 @@ module _ {s : Setup} {run : ℕ → Run} {thread : ℕ → Thread} (old : Seats 
   -- A CPU and a thread get other cells: the thread was nowhere else, and nobody else was there.
   pub seats_after_both : {run' : ℕ → Run} {thread' : ℕ → Thread} {c t : ℕ} {r : Run} {k : Thread} → Stored run run' c r → Stored thread thread' t k
       → GoodCpu s thread' c r → GoodThread s (λ d. (run' d).current) t k
-      → ((d : ℕ) → d < cpu_slots → (d ≡ c → ⊥) → (run d).current ≡ Current.Thread (record { 0 = t }) → ⊥)
-      → ((u : ℕ) → (u ≡ t → ⊥) → (run c).current ≡ Current.Thread (record { 0 = u }) → ⊥) → Seats s run' thread'
+      → ((d : ℕ) → d < cpu_slots → (d ≡ c → ⊥) → (run d).current ≡ Some (record { 0 = t }) → ⊥)
+      → ((u : ℕ) → (u ≡ t → ⊥) → (run c).current ≡ Some (record { 0 = u }) → ⊥) → Seats s run' thread'
   seats_after_both {run'} {thread'} runs threads cpu_good thread_good nowhere_else nobody_else =
       record {
         cpus = everywhere runs (λ d x. d < cpu_slots → GoodCpu s thread' d x) (λ _. cpu_good)
@@ -77,15 +76,15 @@ module _ {s : Setup} {run : ℕ → Run} {thread : ℕ → Thread} (old : Seats 
 
 -- No held lock's word names CPU c.
 abbrev pub Unlocked : Setup → (ℕ → Lock) → ℕ → Type 0
-Unlocked s lock c = (l : ℕ) → l < lock_count → (t : ℕ) → (lock l).state.owner ≡ Owner.Thread t → cpu_of (tag_bits s) (lock l).word ≡ c → ⊥
+Unlocked s lock c = (l : ℕ) → l < lock_count → (t : ℕ) → (lock l).state.owner ≡ Some t → cpu_of (tag_bits s) (lock l).word ≡ c → ⊥
 
-module _ {s : Setup} {current : ℕ → Current} {lock : ℕ → Lock} (old : Locks s current lock) where
+module _ {s : Setup} {current : ℕ → Option ThreadId} {lock : ℕ → Lock} (old : Locks s current lock) where
   -- So it is of a CPU that has no thread.
-  pub idle_unlocked : (c : ℕ) → current c ≡ Current.None → Unlocked s lock c
+  pub idle_unlocked : (c : ℕ) → current c ≡ None → Unlocked s lock c
   idle_unlocked c idle l h t owned named = none_or_thread (sym idle ∙ ap current (sym named) ∙ ((old l h).held t owned).current)
 
   -- Such a CPU gets another current thread, or none.
-  pub locks_after_run : {current' : ℕ → Current} {c : ℕ} {o : Current} → Stored current current' c o → Unlocked s lock c → Locks s current' lock
+  pub locks_after_run : {current' : ℕ → Option ThreadId} {c : ℕ} {o : Option ThreadId} → Stored current current' c o → Unlocked s lock c → Locks s current' lock
   locks_after_run currents unlocked l h =
       record {
         free = (old l h).free;

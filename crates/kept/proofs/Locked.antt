@@ -1,5 +1,6 @@
 -- An acquire, a nested acquire and a release that the lock's rule accepts leave the machine well-formed, in each of the ways of `Walk`. A lock
 -- of the CPU's current thread is a lock of that CPU, for the thread runs nowhere else. Assumes nothing.
+use Rattle.std.specs.Prelude.{Option, None, Some}
 use mathlib.Core.Path.{◌≡◌, refl, sym, ap, ◌∙◌}
 use mathlib.Core.Bool.{true, cond}
 use Prim.Native.Nat.{ℕ, ◌+◌, ◌-◌, ◌^◌, ◌≤◌, ◌<◌}
@@ -12,7 +13,6 @@ use Rattle.words.proofs.Choice.{bool_ind}
 use Rattle.words.proofs.Tags.{word_taggable, word_has_cpu, word_nonzero}
 use Rattle.spinlock_validate.proofs.Laws.{makes}
 use Rattle.spinlock.specs.Lock.{max_nest_depth, free_record, taken_by, deeper, shallower, valid_record}
-use Rattle.spinlock.specs.declared.Owner.{Owner}
 use Rattle.spinlock.specs.declared.SpinlockState.{SpinlockState}
 use Rattle.spinlock.specs.declared.Operation.{Operation}
 use Rattle.spinlock.proofs.Situations.{HeldBy, free}
@@ -37,12 +37,12 @@ pub lock_is_valid : (m : Machine) → WellFormed m → (l : ℕ) → l < lock_co
 unfolding valid_record
 lock_is_valid m w l h = go (lock_at m l).state.owner refl
   where
-    go : (o : Owner) → (lock_at m l).state.owner ≡ o → valid_record (lock_at m l).state ≡ true
-    go Owner.None e = let f = (w.locks l h).free e in rw (e, f.depth, f.flag)
-    go (Owner.Thread t) e = let f = (w.locks l h).held t e in held_valid (lock_at m l).state t e f.some f.most
+    go : (o : Option ℕ) → (lock_at m l).state.owner ≡ o → valid_record (lock_at m l).state ≡ true
+    go None e = let f = (w.locks l h).free e in rw (e, f.depth, f.flag)
+    go (Some t) e = let f = (w.locks l h).held t e in held_valid (lock_at m l).state t e f.some f.most
 
 -- The owner of a lock is carried by the CPU that its word names.
-pub owner_carried : (m : Machine) → WellFormed m → (l : ℕ) → l < lock_count → (t : ℕ) → (lock_at m l).state.owner ≡ Owner.Thread t
+pub owner_carried : (m : Machine) → WellFormed m → (l : ℕ) → l < lock_count → (t : ℕ) → (lock_at m l).state.owner ≡ Some t
     → let c = cpu_of (tag_bits m.setup) (lock_at m l).word in Carried c t (run_at m c) (thread_at m t)
 owner_carried m w l h t owned =
     let was = (w.locks l h).held t owned in
@@ -61,7 +61,7 @@ module _ (m : Machine) (w : WellFormed m) (c l t : ℕ) (hc : c < m.setup.n) (hl
   more = rw (lt-ltb (cpu_at m c).hold 0xffff_ffff (hold_most m w c hc'))
 
   -- A lock of the CPU's thread is a good one, if its word is made from the two.
-  owned_good : (v : Lock) → v.state.owner ≡ Owner.Thread t → 1 ≤ v.state.nest_count → v.state.nest_count ≤ max_nest_depth
+  owned_good : (v : Lock) → v.state.owner ≡ Some t → 1 ≤ v.state.nest_count → v.state.nest_count ≤ max_nest_depth
       → v.state.irq_saved ≡ true → cpu_of (tag_bits m.setup) v.word ≡ c → v.word ≡ word_of c (thread_word m.setup t)
       → GoodLock m.setup (current_at m) v
   owned_good v owner some most flag cpu word =
@@ -80,11 +80,11 @@ module _ (m : Machine) (w : WellFormed m) (c l t : ℕ) (hc : c < m.setup.n) (hl
       }
 
   -- A free lock is taken.
-  taken : (v : Lock) → (lock_at m l).state.owner ≡ Owner.None → v.state ≡ taken_by t → v.word ≡ word_of c (thread_word m.setup t)
+  taken : (v : Lock) → (lock_at m l).state.owner ≡ None → v.state ≡ taken_by t → v.word ≡ word_of c (thread_word m.setup t)
       → Relocks m c l (one_more (cpu_at m c).hold) v
   taken v none state word =
       let was = (w.locks l hl).free none in
-      let owner : v.state.owner ≡ Owner.Thread t = ap (λ (x : SpinlockState). x.owner) state in
+      let owner : v.state.owner ≡ Some t = ap (λ (x : SpinlockState). x.owner) state in
       let depth : v.state.nest_count ≡ 1 = ap (λ (x : SpinlockState). x.nest_count) state in
       let k = tag_bits m.setup in
       let cpu : cpu_of k v.word ≡ c = ap (cpu_of k) word ∙ word_has_cpu k c t fits in
@@ -96,7 +96,7 @@ module _ (m : Machine) (w : WellFormed m) (c l t : ℕ) (hc : c < m.setup.n) (hl
       }
 
   -- An own lock: its word names the CPU.
-  module _ (owned : (lock_at m l).state.owner ≡ Owner.Thread t) where
+  module _ (owned : (lock_at m l).state.owner ≡ Some t) where
     pub named : cpu_of (tag_bits m.setup) (lock_at m l).word ≡ c
     named =
         let here = ((w.seats.cpus c hc').current (record { 0 = t }) runs).place in
@@ -111,7 +111,7 @@ module _ (m : Machine) (w : WellFormed m) (c l t : ℕ) (hc : c < m.setup.n) (hl
         omega (arith, depth_is, (w.counts c hc').is)
 
     -- It goes to another level, with its owner, flag and word.
-    leveled : (h : ℕ) (v : Lock) → v.state.owner ≡ Owner.Thread t → v.state.irq_saved ≡ (lock_at m l).state.irq_saved
+    leveled : (h : ℕ) (v : Lock) → v.state.owner ≡ Some t → v.state.irq_saved ≡ (lock_at m l).state.irq_saved
         → v.word ≡ (lock_at m l).word → 1 ≤ v.state.nest_count → v.state.nest_count ≤ max_nest_depth
         → h + (lock_at m l).state.nest_count ≡ (cpu_at m c).hold + v.state.nest_count → Relocks m c l h v
     leveled h v owner flag word some most moves =
@@ -143,11 +143,11 @@ module _ (m : Machine) (w : WellFormed m) (c l t : ℕ) (hc : c < m.setup.n) (hl
           others = λ d other. depth_zero m.setup v d word ∙ sym (depth_other m.setup (lock_at m l) d (λ e. other (sym e ∙ named)));
         }
 
-  pub word_held : (v : SpinlockState) (u x : ℕ) → v.owner ≡ Owner.Thread u → (lock_at m l).state.owner ≡ Owner.Thread x
+  pub word_held : (v : SpinlockState) (u x : ℕ) → v.owner ≡ Some u → (lock_at m l).state.owner ≡ Some x
       → word_after m.setup c t (lock_at m l) v ≡ (lock_at m l).word
   word_held v u x now before = rw (now, before)
 
-  pub word_made : (v : SpinlockState) → v.owner ≡ Owner.Thread t → (lock_at m l).state.owner ≡ Owner.None
+  pub word_made : (v : SpinlockState) → v.owner ≡ Some t → (lock_at m l).state.owner ≡ None
       → word_after m.setup c t (lock_at m l) v ≡ word_of c (thread_word m.setup t)
   word_made v now before =
       let k = tag_bits m.setup in
@@ -156,7 +156,7 @@ module _ (m : Machine) (w : WellFormed m) (c l t : ℕ) (hc : c < m.setup.n) (hl
   taken_here : (lock_at m l).state ≡ free_record
       → Relocks m c l (one_more (cpu_at m c).hold) (leaves m.setup c t (lock_at m l) (taken_by t))
   taken_here e =
-      let none : (lock_at m l).state.owner ≡ Owner.None = ap (λ (x : SpinlockState). x.owner) e in
+      let none : (lock_at m l).state.owner ≡ None = ap (λ (x : SpinlockState). x.owner) e in
       taken _ none refl (word_made (taken_by t) refl none)
 
   released : HeldBy (lock_at m l).state t

@@ -1,10 +1,11 @@
 -- A lock's cell and a CPU's hold change together: the machine stays well-formed if the lock is a good one and the hold moves with what the
 -- lock adds to it. Assumes nothing.
+use Rattle.std.specs.Prelude.{Option}
+use Rattle.machine.specs.declared.ThreadId.{ThreadId}
 use mathlib.Core.Path.{◌≡◌, refl, ap, ◌∙◌, subst}
 use Prim.Native.Nat.{ℕ, ◌+◌, ◌<◌}
 use native.Mathlib.Omega.{arith}
 use Rattle.machine.specs.State.{cpu_slots, lock_count, cpu_at, thread_at, lock_at}
-use Rattle.machine.specs.declared.Current.{Current}
 use Rattle.machine.specs.declared.Run.{Run}
 use Rattle.machine.specs.declared.Cpu.{Cpu}
 use Rattle.machine.specs.declared.Lock.{Lock}
@@ -56,7 +57,7 @@ module _ (m : Machine) (s : Lengths m) (w : WellFormed m) (c l : ℕ) (hc : c < 
       record {
         size = w.size;
         seats = subst (λ (run : ℕ → Run). Seats m.setup run (thread_at m)) (same_part cpus (λ (x : Cpu). x.run) refl) w.seats;
-        locks = subst (λ (current : ℕ → Current). Locks m.setup current (lock_at (relocked m c l h k)))
+        locks = subst (λ (current : ℕ → Option ThreadId). Locks m.setup current (lock_at (relocked m c l h k)))
             (same_part cpus (λ (x : Cpu). x.run.current) refl) (locks_after_lock w.locks locks g.good);
         counts = counts_after;
       }

@@ -1,11 +1,12 @@
 -- A CPU gets another run cell: counts are kept, and locks are if no held lock's word names it. A CPU with no thread comes up or goes down: the
 -- machine stays well-formed. Assumes nothing.
+use Rattle.std.specs.Prelude.{Option, None, Some}
+use Rattle.machine.specs.declared.ThreadId.{ThreadId}
 use mathlib.Core.Path.{◌≡◌, refl, sym, ◌∙◌, subst}
 use mathlib.Core.Bool.{Bool, false, false≢true}
 use Prim.Native.Nat.{ℕ, ◌<◌}
 use native.Mathlib.Omega.{arith}
 use Rattle.machine.specs.State.{cpu_slots, idle_run, cpu_at, thread_at, lock_at}
-use Rattle.machine.specs.declared.Current.{Current}
 use Rattle.machine.specs.declared.Run.{Run}
 use Rattle.machine.specs.declared.Cpu.{Cpu}
 use Rattle.machine.specs.declared.Machine.{Machine}
@@ -33,18 +34,18 @@ module _ (m : Machine) (s : Lengths m) (c : ℕ) (h : c < cpu_slots) (r : Run) w
 
 -- A CPU that is down has no thread.
 pub down_is_idle : (m : Machine) → WellFormed m → (c : ℕ) → c < cpu_slots → (cpu_at m c).run.active ≡ false
-    → (cpu_at m c).run.current ≡ Current.None
+    → (cpu_at m c).run.current ≡ None
 down_is_idle m w c h down = go (cpu_at m c).run.current refl
   where
-    go : (o : Current) → (cpu_at m c).run.current ≡ o → o ≡ Current.None
-    go Current.None e = refl
-    go (Current.Thread t) e = absurd (false≢true (sym down ∙ ((w.seats.cpus c h).current t e).active))
+    go : (o : Option ThreadId) → (cpu_at m c).run.current ≡ o → o ≡ None
+    go None e = refl
+    go (Some t) e = absurd (false≢true (sym down ∙ ((w.seats.cpus c h).current t e).active))
 
 -- CPU c, active or not, with no thread.
 abbrev pub idled : Machine → ℕ → Bool → Machine
 idled m c active = set_cpu m c (record { run = idle_run active; hold = (cpu_at m c).hold })
 
-module _ (m : Machine) (s : Lengths m) (w : WellFormed m) (c : ℕ) (h : c < m.setup.n) (idle : (cpu_at m c).run.current ≡ Current.None)
+module _ (m : Machine) (s : Lengths m) (w : WellFormed m) (c : ℕ) (h : c < m.setup.n) (idle : (cpu_at m c).run.current ≡ None)
     (active : Bool) where
   inside : c < cpu_slots
   inside = omega (arith, w.size.few)

@@ -1,5 +1,6 @@
 -- A CPU's run cell and a thread's cell change together: the machine stays well-formed if the two agree afterwards, nobody else was on that
 -- CPU, the thread was nowhere else, and no held lock's word names the CPU. Assumes nothing.
+use Rattle.std.specs.Prelude.{None, Some}
 use mathlib.Core.Path.{◌≡◌, ap}
 use Prim.Native.Nat.{ℕ, ◌<◌}
 use native.Mathlib.Omega.{arith}
@@ -7,8 +8,6 @@ use lib.IntN.{pos}
 use Rattle.machine.specs.State.{cpu_slots, thread_count, cpu_at, thread_at, lock_at}
 use Rattle.machine.specs.declared.CpuId.{CpuId}
 use Rattle.machine.specs.declared.ThreadId.{ThreadId}
-use Rattle.machine.specs.declared.Current.{Current}
-use Rattle.machine.specs.declared.Place.{Place}
 use Rattle.machine.specs.declared.Run.{Run}
 use Rattle.machine.specs.declared.Thread.{Thread}
 use Rattle.machine.specs.declared.Machine.{Machine}
@@ -26,9 +25,9 @@ reseated m c t r k = set_cpu (set_thread m t k) c (record { run = r; hold = (cpu
 -- What makes such a change a good one.
 pub record Reseats (m : Machine) (c t : ℕ) (r : Run) (k : Thread) : Type 0 where
   pub fits : Fit m.setup k.priority k.mask
-  pub carries : (u : ThreadId) → r.current ≡ Current.Thread u → (u.0 ≡ t) × Carried c t r k
-  pub placed : (d : CpuId) → k.place ≡ Place.On d → (d.0 ≡ c) × (r.current ≡ Current.Thread (record { 0 = t }))
-  pub idle : r.current ≡ Current.None → r.priority ≡ pos 128
+  pub carries : (u : ThreadId) → r.current ≡ Some u → (u.0 ≡ t) × Carried c t r k
+  pub placed : (d : CpuId) → k.place ≡ Some d → (d.0 ≡ c) × (r.current ≡ Some (record { 0 = t }))
+  pub idle : r.current ≡ None → r.priority ≡ pos 128
   pub nowhere_else : (d : ℕ) → d < cpu_slots → (d ≡ c → ⊥) → Runs m d t → ⊥
   pub nobody_else : (u : ℕ) → (u ≡ t → ⊥) → Runs m c u → ⊥
   pub unlocked : Unlocked m.setup (lock_at m) c

@@ -1,8 +1,8 @@
 -- A thread with no place gets another mask or priority, and the machine stays well-formed: it is current on no CPU. Assumes nothing.
+use Rattle.std.specs.Prelude.{None}
 use mathlib.Core.Path.{◌≡◌, sym, ◌∙◌}
 use Prim.Native.Nat.{ℕ, ◌<◌}
 use Rattle.machine.specs.State.{thread_count, thread_at}
-use Rattle.machine.specs.declared.Place.{Place}
 use Rattle.machine.specs.declared.Thread.{Thread}
 use Rattle.machine.specs.declared.Machine.{Machine}
 use Rattle.wellformed.proofs.Facts.{current_at, Fit, GoodThread, WellFormed}
@@ -13,7 +13,7 @@ use Rattle.kept.proofs.Stored.{thread_stored}
 use Rattle.kept.proofs.Kept.{seats_after_thread}
 
 module _ (m : Machine) (s : Lengths m) (w : WellFormed m) (t : ℕ) (h : t < thread_count) (v : Thread)
-    (nowhere : (thread_at m t).place ≡ Place.Nowhere) (stays : v.place ≡ Place.Nowhere) (fits : Fit m.setup v.priority v.mask) where
+    (nowhere : (thread_at m t).place ≡ None) (stays : v.place ≡ None) (fits : Fit m.setup v.priority v.mask) where
   good : GoodThread m.setup (current_at m) t v
   good = record { place = λ d placed. absurd (nowhere_or_on (sym stays ∙ placed)); fit = fits }
 

@@ -1,5 +1,7 @@
 -- An unwind leaves a well-formed machine: a lock whose word names the CPU is free, every other lock is as it was, and the CPU's hold counts
 -- none. Assumes nothing.
+use Rattle.std.specs.Prelude.{Option}
+use Rattle.machine.specs.declared.ThreadId.{ThreadId}
 use mathlib.Core.Path.{◌≡◌, refl, sym, ap, ◌∙◌, subst}
 use mathlib.Core.Bool.{Bool, true, false, not, cond}
 use Prim.Native.Nat.{ℕ, ◌<◌}
@@ -12,7 +14,6 @@ use Rattle.words.specs.Tag.{cpu_of}
 use Rattle.words.proofs.Choice.{bool_ind, and_right}
 use Rattle.order.specs.Cells.{after}
 use Rattle.machine.specs.State.{cpu_slots, lock_count, tag_bits, names, is_current, free_lock, cpu_at, thread_at, lock_at}
-use Rattle.machine.specs.declared.Current.{Current}
 use Rattle.machine.specs.declared.Setup.{Setup}
 use Rattle.machine.specs.declared.Run.{Run}
 use Rattle.machine.specs.declared.Cpu.{Cpu}
@@ -94,7 +95,7 @@ module _ (m : Machine) (s : Lengths m) (w : WellFormed m) (c : ℕ) (hc : c < m.
       record {
         size = w.size;
         seats = subst (λ (run : ℕ → Run). Seats m.setup run (thread_at m)) (same_part unwound_cpus (λ (x : Cpu). x.run) refl) w.seats;
-        locks = subst (λ (current : ℕ → Current). Locks m.setup current (lock_at (unwound_machine m c)))
+        locks = subst (λ (current : ℕ → Option ThreadId). Locks m.setup current (lock_at (unwound_machine m c)))
             (same_part unwound_cpus (λ (x : Cpu). x.run.current) refl) locks_after;
         counts = counts_after_hold w.counts (part unwound_cpus (λ (x : Cpu). x.hold)) hc sum_none sum_others;
       }

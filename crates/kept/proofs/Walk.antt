@@ -1,6 +1,8 @@
 -- What the lock's rule accepts, walked once for whatever is to be shown of the lock that it hands back. By the lock's situation to the CPU's
 -- current thread a free lock is taken, an own one goes a level up or down, and every other call is refused: an own lock that was taken on
 -- another CPU is foreign, and a held lock is no plain acquire's, again or not. Assumes nothing.
+use Rattle.std.specs.Prelude.{Option, None, Some}
+use Rattle.machine.specs.declared.ThreadId.{ThreadId}
 use mathlib.Core.Path.{◌≡◌, refl}
 use mathlib.Core.Bool.{Bool, true, false, cond, false≢true}
 use Prim.Native.Nat.{ℕ, ◌<◌}
@@ -16,7 +18,6 @@ use Rattle.spinlock.proofs.Situations.{HeldBy, View, free, own, full, foreign, v
 use Rattle.spinlock.proofs.Laws.{operated, again_by}
 use Rattle.order.specs.Outcome.{Outcome, refuse, accept}
 use Rattle.machine.specs.State.{is_thread}
-use Rattle.machine.specs.declared.Current.{Current}
 use Rattle.machine.specs.declared.Setup.{Setup}
 use Rattle.machine.specs.declared.Lock.{Lock}
 use Rattle.machine.specs.declared.Run.{Run}
@@ -88,14 +89,14 @@ module _ (Q : Lock → Type 0) (s : Setup) (c t : ℕ) (lock : Lock) (a : Answer
 
 -- The walk: what the rule tells of an operation by the CPU's current thread.
 pub walked : (s : Setup) (c : ℕ) (run : Run) (lock : Lock) → valid_record lock.state ≡ true → (Q : Operation → Lock → Type 0)
-    → ((t : ℕ) → run.current ≡ Current.Thread (record { 0 = t }) → Ways s c t lock Q) → (op : Operation)
+    → ((t : ℕ) → run.current ≡ Some (record { 0 = t }) → Ways s c t lock Q) → (op : Operation)
     → Told (Q op) (lock_op s op c run lock)
 unfolding lock_op
 walked s c run lock valid Q ways op = go run.current refl
   where
-    go : (o : Current) → run.current ≡ o → Told (Q op) (lock_by s op c o lock)
-    go Current.None e = refl
-    go (Current.Thread t) e =
+    go : (o : Option ThreadId) → run.current ≡ o → Told (Q op) (lock_by s op c o lock)
+    go None e = refl
+    go (Some t) e =
         let rule = ruled s op c t.0 lock in
         bool_ind (λ b. Told (Q op) (cond b (settled s c t.0 lock rule) (refused EINVAL lock.state.nest_count))) (is_thread t.0)
         (λ _. settled_told (Q op) s c t.0 lock rule (by_rule s c t.0 lock valid Q (ways t.0 e) op)) (λ _. refl)

@@ -9,7 +9,6 @@ use Rattle.words.specs.Signed.{from_signed}
 use Rattle.spinlock_validate.specs.Owner.{spin_lock_compute_owner, spin_lock_valid, spin_unlock_valid}
 use Rattle.spinlock.specs.Table.{code_of}
 use Rattle.spinlock.specs.Lock.{operate, after, valid_record, situation_at}
-use Rattle.spinlock.specs.declared.Owner.TheVariants.{Thread}
 use Rattle.order.specs.Every.{every, collect, spread}
 use Rattle.machine.specs.State.{is_priority, thread_mask, fresh_machine, fresh, setup, cpu_at, lock_at}
 use Rattle.record.specs.Record.{fields_of, row_of, fits, request_of}

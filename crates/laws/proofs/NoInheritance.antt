@@ -3,6 +3,7 @@
 -- nothing behind.
 --
 -- `OwnsNothing`, `HoldsNothing` and `Accepted` stand in job/specs/Job.antt. The proofs are in job/proofs/NoInheritance.antt. Assumes nothing.
+use Rattle.std.specs.Prelude.{None}
 use mathlib.Core.Path.{◌≡◌}
 use mathlib.Core.Bool.{true}
 use mathlib.Core.List.{List}
@@ -10,8 +11,6 @@ use Prim.Native.Nat.{ℕ, ◌<◌}
 use Rattle.machine.specs.State.{cpu_slots, cpu_at, thread_at}
 use Rattle.machine.specs.declared.CpuId.{CpuId}
 use Rattle.machine.specs.declared.ThreadId.{ThreadId}
-use Rattle.machine.specs.declared.Current.{Current}
-use Rattle.machine.specs.declared.Place.{Place}
 use Rattle.machine.specs.declared.Machine.{Machine}
 use Rattle.record.specs.Record.{request}
 use Rattle.record.specs.declared.CpuOperation.{CpuOperation}
@@ -24,10 +23,10 @@ use Rattle.job.specs.Job.{OwnsNothing, HoldsNothing, Accepted}
 use Rattle.job.proofs.NoInheritance as Job
 
 module _ (m : Machine) (formed : well_formed m ≡ true) where
-  pub idle_thread : (t : ℕ) → (thread_at m t).place ≡ Place.Nowhere → OwnsNothing m t
+  pub idle_thread : (t : ℕ) → (thread_at m t).place ≡ None → OwnsNothing m t
   idle_thread = Job.no_place m (says m formed)
 
-  pub idle_cpu : (c : ℕ) → c < cpu_slots → (cpu_at m c).run.current ≡ Current.None → HoldsNothing m c
+  pub idle_cpu : (c : ℕ) → c < cpu_slots → (cpu_at m c).run.current ≡ None → HoldsNothing m c
   idle_cpu = Job.no_current m (says m formed)
 
   -- `Lengths`: 16 CPU slots, 32 threads and 128 locks, as every machine value has them. (Neither request uses a lock: its number z is any.)

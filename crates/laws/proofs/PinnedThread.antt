@@ -3,6 +3,7 @@
 --
 -- `OwnCpu` and `put_whatever_the_mask` stand in specs/Pinned.antt. Every step keeps a machine well-formed, `step_Keeps` (kept/proofs/Laws.antt), so
 -- this is true after every record. Assumes nothing.
+use Rattle.std.specs.Prelude.{None}
 use mathlib.Core.Path.{◌≡◌, refl, sym, ◌∙◌}
 use mathlib.Core.Bool.{Bool, true, false, ◌||◌, not, cond}
 use mathlib.Core.List.{List}
@@ -14,8 +15,6 @@ use Rattle.words.specs.Bit.{bit}
 use Rattle.words.proofs.Ones.{one_only}
 use Rattle.order.specs.Outcome.{answer_of}
 use Rattle.machine.specs.State.{thread_count, cpu_at, thread_at}
-use Rattle.machine.specs.declared.Current.{Current}
-use Rattle.machine.specs.declared.Place.{Place}
 use Rattle.machine.specs.declared.Run.{Run}
 use Rattle.machine.specs.declared.Thread.{Thread}
 use Rattle.machine.specs.declared.Machine.{Machine}
@@ -59,6 +58,6 @@ module _ (m : Machine) (formed : well_formed m ≡ true) (pinned : m.setup.pin_o
         rw asks (sym (answer_two (put c t (cpu_at m c).run (thread_at m t))) ∙ put_allowed c t (cpu_at m c).run (thread_at m t) own)
 
     -- So it can run: where the CPU is active and has no thread, and the thread has no place, the put is accepted.
-    pub can_run : (cpu_at m has_a_cpu.cpu).run.active ≡ true → (cpu_at m has_a_cpu.cpu).run.current ≡ Current.None
-        → (thread_at m t).place ≡ Place.Nowhere → is_ok (answered m bytes).code ≡ true
+    pub can_run : (cpu_at m has_a_cpu.cpu).run.active ≡ true → (cpu_at m has_a_cpu.cpu).run.current ≡ None
+        → (thread_at m t).place ≡ None → is_ok (answered m bytes).code ≡ true
     can_run active idle nowhere = rw (never_refused_for_its_mask, active, idle, nowhere) refl

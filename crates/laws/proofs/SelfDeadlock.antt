@@ -4,6 +4,7 @@
 --
 -- `Holds`, `HeldByAnother` and `plain_answer` stand in job/specs/Deadlock.antt, the ledger's `settled` in ledger/specs/Ledger.antt. The proofs are
 -- in job/proofs/Deadlock.antt. Assumes nothing.
+use Rattle.std.specs.Prelude.{Some}
 use mathlib.Core.Path.{◌≡◌, ap}
 use mathlib.Core.Bool.{true, false, cond}
 use mathlib.Core.List.{List}
@@ -14,7 +15,6 @@ use Rattle.error.specs.Answer.{answer}
 use Rattle.spinlock.specs.declared.Operation.{Operation as LockOperation}
 use Rattle.machine.specs.State.{cpu_at, lock_at}
 use Rattle.machine.specs.declared.ThreadId.{ThreadId}
-use Rattle.machine.specs.declared.Current.{Current}
 use Rattle.machine.specs.declared.Machine.{Machine}
 use Rattle.record.specs.Record.{request_of}
 use Rattle.record.specs.declared.Operation.{Operation}
@@ -60,6 +60,6 @@ module _ (m : Machine) (bytes : List ℕ) where
     busy_is_anothers = Job.busy_elsewhere m formed bytes
 
     -- And the other way round: while CPU c holds the lock, that CPU is told EDEADLK, and every other that has a thread EBUSY.
-    pub told_apart : Plain → (c : ℕ) → Holds m c asked.lock.0 → (u : ThreadId) → (cpu_at m asked.cpu.0).run.current ≡ Current.Thread u
+    pub told_apart : Plain → (c : ℕ) → Holds m c asked.lock.0 → (u : ThreadId) → (cpu_at m asked.cpu.0).run.current ≡ Some u
         → answered m bytes ≡ answer (cond (eqb c asked.cpu.0) EDEADLK EBUSY) (lock_at m asked.lock.0).state.nest_count
     told_apart = Job.held_answered m formed bytes

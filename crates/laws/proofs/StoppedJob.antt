@@ -5,6 +5,7 @@
 --
 -- `Unwinds` stands in job/specs/Stopped.antt; `OwnsNothing`, `HoldsNothing` and `Accepted` in job/specs/Job.antt. The proofs are in
 -- job/proofs/Stopped.antt and job/proofs/NoInheritance.antt. Assumes nothing.
+use Rattle.std.specs.Prelude.{Some}
 use mathlib.Core.Path.{◌≡◌}
 use mathlib.Core.Bool.{true}
 use mathlib.Core.List.{List}
@@ -12,7 +13,6 @@ use Prim.Native.Nat.{ℕ}
 use Rattle.machine.specs.State.{cpu_at}
 use Rattle.machine.specs.declared.CpuId.{CpuId}
 use Rattle.machine.specs.declared.ThreadId.{ThreadId}
-use Rattle.machine.specs.declared.Current.{Current}
 use Rattle.machine.specs.declared.Machine.{Machine}
 use Rattle.record.specs.Record.{request, request_of}
 use Rattle.record.specs.declared.CpuOperation.{CpuOperation}
@@ -28,7 +28,7 @@ use Rattle.job.proofs.NoInheritance as Inheritance
 
 -- `Lengths`: 16 CPU slots, 32 threads and 128 locks, as every machine value has them. (No request here uses a lock: its number is any.)
 module _ (m : Machine) (formed : well_formed m ≡ true) (size : Lengths m) (c : CpuId) (t : ThreadId)
-    (runs : (cpu_at m c.0).run.current ≡ Current.Thread t) (unwind : List ℕ) {x : ℕ}
+    (runs : (cpu_at m c.0).run.current ≡ Some t) (unwind : List ℕ) {x : ℕ}
     (asks : request_of m.setup unwind ≡ request Operation.Unwind c.0 t.0 x) where
   pub stopped : Unwinds m unwind c.0 t.0
   stopped = Job.unwinds m size formed c.0 t.0 runs unwind asks

@@ -6,7 +6,6 @@ use Rattle.error.specs.Codes.{OK, EBUSY, EINVAL}
 use Rattle.error.specs.Answer.{answer}
 use Rattle.spinlock_validate.specs.Owner.{tag_bits, wide_tag_bits, nobody, held_by, spin_lock_compute_owner, spin_lock_decode_owner, spin_lock_valid}
 use Rattle.spinlock.specs.Lock.{acquire}
-use Rattle.spinlock.specs.declared.Owner.TheVariants.{Thread}
 use Rattle.spinlock.specs.declared.SpinlockState.{SpinlockState}
 use Rattle.cpu_mask.specs.Mask.{cpu_mask_mod, cpu_pin_compute}
 use Rattle.ipi.specs.Ipi.{compute_ipi_mask}

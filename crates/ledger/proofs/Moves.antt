@@ -1,4 +1,5 @@
 -- What an accepted acquire or release does to its lock's depth and its CPU's hold, and who then acquired last. Assumes nothing.
+use Rattle.std.specs.Prelude.{None}
 use mathlib.Core.Path.{◌≡◌, refl, sym, ap, ◌∙◌}
 use mathlib.Core.Bool.{Bool, true, cond}
 use Prim.Native.Nat.{ℕ, ◌+◌, ◌-◌, ◌<◌}
@@ -9,7 +10,6 @@ use Rattle.words.specs.Tag.{cpu_of}
 use Rattle.words.proofs.Choice.{bool_ind}
 use Rattle.words.proofs.Tags.{word_has_cpu}
 use Rattle.spinlock.specs.Lock.{free_record, taken_by, deeper, shallower}
-use Rattle.spinlock.specs.declared.Owner.{Owner}
 use Rattle.spinlock.specs.declared.SpinlockState.{SpinlockState}
 use Rattle.spinlock.specs.declared.Operation.{Operation}
 use Rattle.spinlock.proofs.Situations.{HeldBy}
@@ -41,7 +41,7 @@ module _ (m : Machine) (w : WellFormed m) (c l t : ℕ) (hc : c < m.setup.n) (hl
   -- The CPU in the word of a lock that was free.
   taken_cpu : (lock_at m l).state ≡ free_record → cpu_of (tag_bits m.setup) (word_after m.setup c t (lock_at m l) (taken_by t)) ≡ c
   taken_cpu e =
-      let none : (lock_at m l).state.owner ≡ Owner.None = ap (λ (x : SpinlockState). x.owner) e in
+      let none : (lock_at m l).state.owner ≡ None = ap (λ (x : SpinlockState). x.owner) e in
       ap (cpu_of (tag_bits m.setup)) (word_made m w c l t hc hl runs (taken_by t) refl none)
       ∙ word_has_cpu (tag_bits m.setup) c t (cpu_fits m w c hc)
 

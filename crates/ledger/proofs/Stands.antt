@@ -1,12 +1,12 @@
 -- When a stand is a machine's: it balances, and while a lock is held the last accepted acquire came from the CPU in its word. So an unwind by
 -- that CPU, which frees the lock, closes its book, and no other unwind does. Assumes nothing.
+use Rattle.std.specs.Prelude.{Option, None, Some}
 use mathlib.Core.Path.{◌≡◌, refl}
 use mathlib.Core.Bool.{Bool}
 use Prim.Native.Nat.{ℕ, ◌<◌}
 use native.Mathlib.Nat.{add-zero}
 use native.Mathlib.Omega.{arith}
 use borrow.Author.Tests.{ne_eqb}
-use Rattle.spinlock.specs.declared.Owner.{Owner}
 use Rattle.machine.specs.State.{lock_count, lock_at}
 use Rattle.machine.specs.declared.Machine.{Machine}
 use Rattle.wellformed.proofs.Facts.{WellFormed}
@@ -33,16 +33,16 @@ module _ (m : Machine) (w : WellFormed m) (l : ℕ) (hl : l < lock_count) where
   pub depth_word : 0 < (lock_at m l).state.nest_count → (lock_at m l).word ≡ 0 → ⊥
   depth_word deep = go (lock_at m l).state.owner refl
     where
-      go : (o : Owner) → (lock_at m l).state.owner ≡ o → (lock_at m l).word ≡ 0 → ⊥
-      go Owner.None e = let none = ((w.locks l hl).free e).depth in absurd (omega arith)
-      go (Owner.Thread t) e = held_word m.setup (lock_at m l) t ((w.locks l hl).held t e)
+      go : (o : Option ℕ) → (lock_at m l).state.owner ≡ o → (lock_at m l).word ≡ 0 → ⊥
+      go None e = let none = ((w.locks l hl).free e).depth in absurd (omega arith)
+      go (Some t) e = held_word m.setup (lock_at m l) t ((w.locks l hl).held t e)
 
   pub word_depth : ((lock_at m l).word ≡ 0 → ⊥) → 0 < (lock_at m l).state.nest_count
   word_depth some = go (lock_at m l).state.owner refl
     where
-      go : (o : Owner) → (lock_at m l).state.owner ≡ o → 0 < (lock_at m l).state.nest_count
-      go Owner.None e = absurd (some ((w.locks l hl).free e).word)
-      go (Owner.Thread t) e = ((w.locks l hl).held t e).some
+      go : (o : Option ℕ) → (lock_at m l).state.owner ≡ o → 0 < (lock_at m l).state.nest_count
+      go None e = absurd (some ((w.locks l hl).free e).word)
+      go (Some t) e = ((w.locks l hl).held t e).some
 
 -- The opening stand is the machine's.
 pub opening_stands : (m : Machine) → WellFormed m → (book : Book) → InBooks book → Stands m book (opening_of m book)

@@ -1,4 +1,5 @@
 -- The ways in which the lock's rule is settled, and by whom, over plain variables. Assumes nothing.
+use Rattle.std.specs.Prelude.{None, Some}
 use mathlib.Core.Path.{◌≡◌, subst}
 use mathlib.Core.Bool.{true, false}
 use Prim.Native.Nat.{ℕ}
@@ -11,7 +12,6 @@ use Rattle.spinlock.specs.declared.Operation.{Operation}
 use Rattle.spinlock.specs.declared.SpinlockState.{SpinlockState}
 use Rattle.machine.specs.State.{is_thread}
 use Rattle.machine.specs.declared.ThreadId.{ThreadId}
-use Rattle.machine.specs.declared.Current.{Current}
 use Rattle.machine.specs.declared.Setup.{Setup}
 use Rattle.machine.specs.declared.Cpu.{Cpu}
 use Rattle.machine.specs.declared.Lock.{Lock}
@@ -43,11 +43,11 @@ module _ (s : Setup) (op : Operation) (c t : ℕ) (cpu : Cpu) (lock : Lock) (a :
 
 -- By the CPU's current thread: none, one that there is not, or one that there is.
 module _ (s : Setup) (op : Operation) (c : ℕ) (cpu : Cpu) (lock : Lock) where
-  pub by_nobody : cpu.run.current ≡ Current.None → (answer EINVAL lock.state.nest_count, (cpu, lock)) ≡ on_lock s op c cpu lock
+  pub by_nobody : cpu.run.current ≡ None → (answer EINVAL lock.state.nest_count, (cpu, lock)) ≡ on_lock s op c cpu lock
   unfolding on_lock lock_op
   by_nobody e = rw e
 
-  module _ {t : ThreadId} (e : cpu.run.current ≡ Current.Thread t) where
+  module _ {t : ThreadId} (e : cpu.run.current ≡ Some t) where
     pub by_stranger : is_thread t.0 ≡ false → (answer EINVAL lock.state.nest_count, (cpu, lock)) ≡ on_lock s op c cpu lock
     unfolding on_lock lock_op
     by_stranger missing = rw (e, missing)

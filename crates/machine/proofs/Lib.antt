@@ -1,4 +1,3 @@
-pub mod OneResult
 pub mod Size
 pub mod CurrentThread
 pub mod Priority

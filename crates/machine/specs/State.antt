@@ -1,25 +1,19 @@
 -- 01, "The machine", and 02, request 4: n CPUs, 32 threads, and 128 locks, all free at the start, in one record.
-use Rattle.std.specs.Prelude.{ℕ, ◌+◌, ◌*◌, ◌/◌, ◌%◌, ◌^◌, Bool, true, false, ◌&&◌, not, cond, eqb, leb, ltb, ℤ, pos, neg_ℤ, List, get_or, replicate}
+use Rattle.machine.specs.declared.ThreadId.{ThreadId}
+use Rattle.std.specs.Prelude.{ℕ, ◌+◌, ◌*◌, ◌/◌, ◌%◌, ◌^◌, Bool, true, false, ◌&&◌, not, cond, eqb, leb, ltb, ℤ, pos, neg_ℤ, List, get_or, replicate, Option, None, Some}
 use Rattle.std.specs.Int.Signed.{le_z}
-use Rattle.error.specs.Codes.{OK, EINVAL, number_of}
+use Rattle.error.specs.Codes.{OK, EINVAL}
 use Rattle.error.specs.Answer.{Answer, answer}
 use Rattle.words.specs.Tag.{cpu_of}
 use Rattle.spinlock_validate.specs.Owner.{width_bits, width_by}
 use Rattle.spinlock_validate.specs.declared.Width.{Width}
 use Rattle.spinlock.specs.Lock.{free_record}
-use Rattle.machine.specs.declared.Current.{Current}
-use Rattle.machine.specs.declared.Place.TheVariants.{Nowhere}
 use Rattle.machine.specs.declared.Run.{Run}
 use Rattle.machine.specs.declared.Cpu.{Cpu}
 use Rattle.machine.specs.declared.Thread.{Thread}
 use Rattle.machine.specs.declared.Lock.{Lock}
 use Rattle.machine.specs.declared.Setup.{Setup}
 use Rattle.machine.specs.declared.Machine.{Machine}
-use Rattle.machine.specs.declared.Made.{Made}
-
--- A made machine's code and machine.
-abbrev pub made_says : Made → Answer Machine
-made_says a = answer (number_of a.code) a.machine
 
 -- How many CPU slots, threads and locks there are.
 abbrev pub cpu_slots : ℕ
@@ -64,13 +58,13 @@ abbrev pub names : Setup → ℕ → ℕ → Bool
 names k word c = not (eqb word 0) && eqb (cpu_of (tag_bits k) word) c
 
 -- Thread t is the current one.
-abbrev pub is_current : Current → ℕ → Bool
-is_current Current.None t = false
-is_current (Current.Thread s) t = eqb s.0 t
+abbrev pub is_current : Option ThreadId → ℕ → Bool
+is_current None t = false
+is_current (Some s) t = eqb s.0 t
 
 -- An idle or down CPU has priority 128.
 abbrev pub idle_run : Bool → Run
-idle_run active = record { active = active; current = Current.None; priority = pos 128 }
+idle_run active = record { active = active; current = None; priority = pos 128 }
 
 -- Fresh: CPUs down; threads have priority 0, no place, mask 1 with pin-only, else all ones; locks free, with word 0.
 abbrev pub fresh_cpu : Cpu
@@ -81,7 +75,7 @@ thread_mask true = 1
 thread_mask false = 0xffff_ffff
 
 abbrev pub fresh_thread : Bool → Thread
-fresh_thread pinOnly = record { mask = thread_mask pinOnly; priority = pos 0; place = Nowhere }
+fresh_thread pinOnly = record { mask = thread_mask pinOnly; priority = pos 0; place = None }
 
 abbrev pub free_lock : Lock
 free_lock = record { state = free_record; word = 0 }
@@ -104,8 +98,11 @@ fresh_machine k threads =
 abbrev pub least_setup : Setup
 least_setup = record { n = 1; pin_only = false; wide = false }
 
+abbrev pub least_machine : Machine
+least_machine = fresh_machine least_setup (fresh_threads least_setup)
+
 unfoldable pub not_made : Answer Machine
-not_made = answer EINVAL (fresh_machine least_setup (fresh_threads least_setup))
+not_made = answer EINVAL least_machine
 
 -- n is 1 to 4, to 16 if wide, else EINVAL.
 unfoldable pub fresh : Setup → Answer Machine
@@ -120,15 +117,19 @@ abbrev pub setup_of : ℕ → Setup
 setup_of byte =
     record { n = cpu_field (eqb (byte / 4 % 2) 1) (byte / 16); pin_only = eqb (byte / 8 % 2) 1; wide = eqb (byte / 4 % 2) 1 }
 
+-- The setup that a byte stands for: its last two bits are zero, and n is as above, else EINVAL.
+unfoldable pub setup_by_byte : ℕ → Answer Setup
+setup_by_byte byte = cond (eqb (byte % 4) 0 && setup_ok (setup_of byte)) (answer OK (setup_of byte)) (answer EINVAL least_setup)
+
 unfoldable pub setup : ℕ → Answer Machine
 setup byte = cond (eqb (byte % 4) 0) (fresh (setup_of byte)) not_made
 
 -- What stands past the end of an array: all zero.
 abbrev pub no_cpu : Cpu
-no_cpu = record { run = record { active = false; current = Current.None; priority = pos 0 }; hold = 0 }
+no_cpu = record { run = record { active = false; current = None; priority = pos 0 }; hold = 0 }
 
 abbrev pub no_thread : Thread
-no_thread = record { mask = 0; priority = pos 0; place = Nowhere }
+no_thread = record { mask = 0; priority = pos 0; place = None }
 
 abbrev pub cpu_at : Machine → ℕ → Cpu
 cpu_at m c = get_or m.cpus c no_cpu

@@ -7,6 +7,7 @@
 #![tactic(auto)]
 
 ghost use Rattle.std.specs.Prelude.{◌≡◌};
+ghost use Rattle.error.specs.Answer.{says};
 ghost use Rattle.words.specs.Tag.{cpu_of};
 ghost use Rattle.machine.specs.State.{
   setup_ok,
@@ -20,14 +21,15 @@ ghost use Rattle.machine.specs.State.{
   thread_mask,
   fresh_machine,
   fresh_threads,
-  made_says,
+  least_setup,
+  least_machine,
   fresh as State·fresh,
-  not_made,
+  setup_by_byte,
   setup as State·setup,
 };
 
-use error::Code;
-use spinlock::{Owner, SpinlockState};
+use error::Refusal;
+use spinlock::SpinlockState;
 use spinlock_validate::Width;
 
 // How many CPU slots, threads and locks a machine has.
@@ -44,13 +46,13 @@ const LEAST_PRIORITY: i32 = -128;
 
 const GREATEST_PRIORITY: i32 = 127;
 
-#[derive(Clone, Copy)]
+#[derive(Clone, Copy, Debug, PartialEq, Eq)]
 pub struct CpuId(pub u32);
 
-#[derive(Clone, Copy)]
+#[derive(Clone, Copy, Debug, PartialEq, Eq)]
 pub struct ThreadId(pub u32);
 
-#[derive(Clone, Copy)]
+#[derive(Clone, Copy, Debug, PartialEq, Eq)]
 pub struct LockId(pub u32);
 
 impl ThreadId {
@@ -63,14 +65,15 @@ impl ThreadId {
 }
 
 // Whether a thread can have this priority: it lies in -128..127.
+#[tactic(auto, unfolding(crate::specs::State::is_priority))]
 pub fn is_priority(priority: i32) -> bool
     ensures { result ≡ is_priority priority }
 {
-    (LEAST_PRIORITY <= priority) & (priority <= GREATEST_PRIORITY)
+    LEAST_PRIORITY <= priority && priority <= GREATEST_PRIORITY
 }
 
 // What is fixed at start: how many CPUs there are, whether a mask has one bit only, and whether owner words have wide tags.
-#[derive(Clone, Copy)]
+#[derive(Clone, Copy, Debug, PartialEq, Eq)]
 pub struct Setup {
     pub n: u32,
     pub pin_only: bool,
@@ -82,80 +85,63 @@ impl Setup {
     pub fn width(self) -> Width
         ensures { result ≡ width_of self }
     {
-        spinlock_validate::width_by(self.wide)
+        Width::from(self.wide)
     }
 
     // Whether a machine can have this setup: n is 1 to 4, and to 16 if it is wide.
     pub fn is_ok(self) -> bool
         ensures { result ≡ setup_ok self }
     {
-        let width = self.width();
-        (1 <= self.n) & (self.n as u64 <= width.tags())
+        1 <= self.n && self.n as u64 <= self.width().tags()
     }
 
     // Whether a machine of this setup has the CPU.
     pub fn has_cpu(self, c: CpuId) -> bool
         ensures { result ≡ has_cpu self c.0 }
     {
-        self.is_ok() & (c.0 < self.n)
+        self.is_ok() && c.0 < self.n
     }
 
     // The thread word of a thread: the address that stands for it in owner words.
     pub fn thread_word(self, t: ThreadId) -> u64
         ensures { result ≡ thread_word self t.0 }
     {
-        let width = self.width();
-        width.tags() * (t.0 as u64 + 1)
+        self.width().tags() * (t.0 as u64 + 1)
     }
 
     // The CPU in an owner word.
     pub fn cpu_of(self, word: u64) -> CpuId
         ensures { result.0 ≡ cpu_of (tag_bits self) word }
     {
-        let width = self.width();
-        CpuId(width.cpu_of(word))
+        CpuId(self.width().cpu_of(word))
     }
 }
 
-// The thread that a CPU runs.
-#[derive(Clone, Copy)]
-pub enum Current {
-    None,
-    Thread(ThreadId),
-}
-
-// The CPU on which a thread runs.
-#[derive(Clone, Copy)]
-pub enum Place {
-    Nowhere,
-    On(CpuId),
-}
-
-// A CPU's run cell.
-#[derive(Clone, Copy)]
+// A CPU's run cell. Its current thread is the one that it runs, if it runs one.
+#[derive(Clone, Copy, Debug, PartialEq, Eq)]
 pub struct Run {
     pub active: bool,
-    pub current: Current,
+    pub current: Option<ThreadId>,
     pub priority: i32,
 }
 
 // A CPU: its run cell, and its hold cell, how many lock levels it holds.
-#[derive(Clone, Copy)]
+#[derive(Clone, Copy, Debug, PartialEq, Eq)]
 pub struct Cpu {
     pub run: Run,
     pub hold: u32,
 }
 
-// A thread's cell.
-#[derive(Clone, Copy)]
+// A thread's cell. Its place is the CPU on which it runs, if it runs.
+#[derive(Clone, Copy, Debug, PartialEq, Eq)]
 pub struct Thread {
     pub mask: u32,
     pub priority: i32,
-    pub place: Place,
+    pub place: Option<CpuId>,
 }
 
 // A lock's cell: the lock record and the owner word.
-#[derive(Clone, Copy)]
+#[derive(Clone, Copy, Debug, PartialEq, Eq)]
 pub struct Lock {
     pub state: SpinlockState,
     pub word: u64,
@@ -164,26 +150,19 @@ pub struct Lock {
 // A free lock, whose word names nobody.
 pub const FREE_LOCK: Lock = Lock {
     state: SpinlockState {
-        owner: Owner::None,
+        owner: None,
         nest_count: 0,
         irq_saved: false,
     },
     word: 0,
 };
 
-#[derive(Clone, Copy)]
+#[derive(Clone, Copy, Debug, PartialEq, Eq)]
 pub struct Machine {
     pub setup: Setup,
     pub cpus: [Cpu; CPU_SLOTS],
     pub threads: [Thread; THREADS],
     pub locks: [Lock; LOCKS],
-}
-
-// A machine that was made, or the fresh one of n 1 with the code of the refusal.
-#[derive(Clone, Copy)]
-pub struct Made {
-    pub code: Code,
-    pub machine: Machine,
 }
 
 // The mask of a fresh thread.
@@ -199,7 +178,7 @@ fn fresh_machine(setup: Setup) -> Machine
 {
     let run = Run {
         active: false,
-        current: Current::None,
+        current: None,
         priority: IDLE_PRIORITY,
     };
     let cpu = Cpu { run, hold: 0 };
@@ -208,7 +187,7 @@ fn fresh_machine(setup: Setup) -> Machine
     let thread = Thread {
         mask,
         priority: 0,
-        place: Place::Nowhere,
+        place: None,
     };
     let threads = [thread; THREADS];
     let locks = [FREE_LOCK; LOCKS];
@@ -220,31 +199,15 @@ fn fresh_machine(setup: Setup) -> Machine
     }
 }
 
-// The fresh machine of n 1, all flags off, with the code of a refusal.
-fn refused() -> Made
-    ensures { made_says result ≡ not_made }
-{
-    let setup = Setup {
-        n: 1,
-        pin_only: false,
-        wide: false,
-    };
-    Made {
-        code: Code::Einval,
-        machine: fresh_machine(setup),
-    }
-}
-
 // The fresh machine of a setup. One that no machine can have is refused.
-pub fn fresh(setup: Setup) -> Made
-    ensures { made_says result ≡ State·fresh setup }
+#[tactic(auto, unfolding(crate::specs::State::fresh, crate::specs::State::not_made))]
+pub fn fresh(setup: Setup) -> Result<Machine, Refusal>
+    ensures { says least_machine result ≡ State·fresh setup }
 {
-    if !setup.is_ok() {
-        return refused();
-    }
-    Made {
-        code: Code::Ok,
-        machine: fresh_machine(setup),
+    if setup.is_ok() {
+        Ok(fresh_machine(setup))
+    } else {
+        Err(Refusal::Einval)
     }
 }
 
@@ -252,24 +215,40 @@ pub fn fresh(setup: Setup) -> Made
 fn cpu_field(wide: bool, field: u32) -> u32
     ensures { result ≡ State·cpuField wide field }
 {
-    if wide & (field == 0) {
+    if wide && field == 0 {
         return CPU_SLOTS as u32;
     }
     field
 }
 
-// The fresh machine that a setup byte asks for: n in the upper four bits, then pin-only, then wide, then two zero bits.
-pub fn from_setup_byte(byte: u8) -> Made
-    ensures { made_says result ≡ State·setup byte }
-{
-    if byte % 4 != 0 {
-        return refused();
+// The setup that a byte stands for: n in the upper four bits, then pin-only, then wide, then two zero bits.
+impl TryFrom<u8> for Setup {
+    type Error = Refusal;
+
+    ghost try_from_gives = { λ byte setup. says least_setup setup ≡ setup_by_byte byte };
+
+    #[tactic(auto, unfolding(crate::specs::State::setup_by_byte))]
+    fn try_from(byte: u8) -> Result<Setup, Refusal> {
+        if byte % 4 != 0 {
+            return Err(Refusal::Einval);
+        }
+        let wide = byte / 4 % 2 == 1;
+        let setup = Setup {
+            n: cpu_field(wide, u32::from(byte / 16)),
+            pin_only: byte / 8 % 2 == 1,
+            wide,
+        };
+        if !setup.is_ok() {
+            return Err(Refusal::Einval);
+        }
+        Ok(setup)
     }
-    let wide = byte / 4 % 2 == 1;
-    let setup = Setup {
-        n: cpu_field(wide, (byte / 16) as u32),
-        pin_only: byte / 8 % 2 == 1,
-        wide,
-    };
-    fresh(setup)
+}
+
+// The fresh machine that a setup byte asks for.
+#[tactic(auto, unfolding(crate::specs::State::setup_by_byte, crate::specs::State::setup, crate::specs::State::fresh, crate::specs::State::not_made))]
+pub fn from_setup_byte(byte: u8) -> Result<Machine, Refusal>
+    ensures { says least_machine result ≡ State·setup byte }
+{
+    Ok(fresh_machine(Setup::try_from(byte)?))
 }

@@ -1,5 +1,7 @@
 -- Which codes an operation answers with, walked once for whatever is to be shown of them: by the operation, and within a rule by its tests.
 -- Assumes nothing.
+use Rattle.std.specs.Prelude.{Option, None, Some}
+use Rattle.machine.specs.declared.ThreadId.{ThreadId}
 use mathlib.Core.Path.{◌≡◌, refl, sym, ap, subst}
 use mathlib.Core.Bool.{Bool, true, false, ◌&&◌, ◌||◌, not, cond}
 use mathlib.Core.List.{List, []}
@@ -20,7 +22,6 @@ use Rattle.order.specs.Outcome.{Outcome, refuse, accept, answer_of}
 use Rattle.order.specs.Cells.{Vals, reply}
 use Rattle.order.proofs.Every.{values}
 use Rattle.machine.specs.State.{cpu_slots, lock_count, is_thread, is_current, cpu_at, thread_at, lock_at}
-use Rattle.machine.specs.declared.Current.{Current}
 use Rattle.machine.specs.declared.Setup.{Setup}
 use Rattle.machine.specs.declared.Run.{Run}
 use Rattle.machine.specs.declared.Thread.{Thread}
@@ -126,9 +127,9 @@ module _ (P : ℤ → Type 0) (each : EachCode P) where
   unfolding Rules.lock_op
   lock_coded s op c r k dead = by r.current
     where
-      by : (o : Current) → CodedOutcome (Rules.lock_by s op c o k)
-      by Current.None = each.invalid
-      by (Current.Thread t) =
+      by : (o : Option ThreadId) → CodedOutcome (Rules.lock_by s op c o k)
+      by None = each.invalid
+      by (Some t) =
           either CodedOutcome (is_thread t.0) _ _
           (either CodedOutcome (is_ok (Rules.ruled s op c t.0 k).code) _ _ each.ok (ruled_coded s op c t.0 k dead)) each.invalid
 

@@ -1,5 +1,7 @@
 -- A record whose code is not OK leaves the machine as it was. A refused outcome does so by its type; an accepted one that writes a cell has the
 -- code OK, which is shown of each rule. Assumes nothing.
+use Rattle.std.specs.Prelude.{Option, None, Some}
+use Rattle.machine.specs.declared.ThreadId.{ThreadId}
 use mathlib.Core.Path.{◌≡◌, refl, sym, ◌∙◌}
 use mathlib.Core.Bool.{Bool, true, false, ◌||◌, not, cond, false≢true}
 use mathlib.Core.List.{List}
@@ -15,7 +17,6 @@ use Rattle.spinlock.specs.declared.SpinlockState.{SpinlockState}
 use Rattle.spinlock.specs.declared.Operation.{Operation as LockOperation}
 use Rattle.cpu_mask.specs.Mask.{mask_bits}
 use Rattle.machine.specs.State.{is_thread, is_current, cpu_at, thread_at, lock_at}
-use Rattle.machine.specs.declared.Current.{Current}
 use Rattle.machine.specs.declared.Setup.{Setup}
 use Rattle.machine.specs.declared.Run.{Run}
 use Rattle.machine.specs.declared.Thread.{Thread}
@@ -86,9 +87,9 @@ take_done t h r k = either (not (is_current r.current t)) refusal (either (not (
 settled_done : (s : Setup) (c t : ℕ) (k : Lock) (a : Answer SpinlockState) → DoneIsOK (Rules.settled s c t k a)
 settled_done s c t k a = either (is_ok a.code) finished refusal
 
-lock_done : (s : Setup) (op : LockOperation) (c : ℕ) (current : Current) (k : Lock) → DoneIsOK (Rules.lock_by s op c current k)
-lock_done s op c Current.None k = refusal
-lock_done s op c (Current.Thread t) k = either (is_thread t.0) (settled_done s c t.0 k (Rules.ruled s op c t.0 k)) refusal
+lock_done : (s : Setup) (op : LockOperation) (c : ℕ) (current : Option ThreadId) (k : Lock) → DoneIsOK (Rules.lock_by s op c current k)
+lock_done s op c None k = refusal
+lock_done s op c (Some t) k = either (is_thread t.0) (settled_done s c t.0 k (Rules.ruled s op c t.0 k)) refusal
 
 remasked_done : (k : Thread) (a : Answer ℕ) → DoneIsOK (Rules.remasked k a)
 remasked_done k a = either (is_ok a.code) finished refusal

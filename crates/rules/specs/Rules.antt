@@ -1,6 +1,8 @@
 -- 01, "Log records", and 02, requests 1, 5 and 6: the operations, each a function of the cells that it names. The tests stand in the order of 01's
 -- table, after the form test; a value on a refusal is the one that stands after the unchanged call.
-use Rattle.std.specs.Prelude.{ℕ, zero, suc, ◌+◌, ◌-◌, ◌%◌, ◌^◌, Bool, true, false, ◌&&◌, ◌||◌, not, cond, List, [], ◌∷◌, ◌++◌, map, eqb, ltb, ℤ, get_or}
+use Rattle.machine.specs.declared.ThreadId.{ThreadId}
+use Rattle.machine.specs.declared.CpuId.{CpuId}
+use Rattle.std.specs.Prelude.{ℕ, zero, suc, ◌+◌, ◌-◌, ◌%◌, ◌^◌, Bool, true, false, ◌&&◌, ◌||◌, not, cond, List, [], ◌∷◌, ◌++◌, map, eqb, ltb, ℤ, get_or, Option, None, Some}
 use Rattle.error.specs.Codes.{OK, EPERM, EBUSY, EINVAL, EALREADY, number_of, is_ok}
 use Rattle.error.specs.Answer.{Answer, answer}
 use Rattle.words.specs.Bit.{bit, bit_not}
@@ -13,8 +15,6 @@ use Rattle.ipi.specs.Ipi.{max_ipi_cpus, compute_ipi_mask}
 use Rattle.ipi.specs.declared.CpuRecord.{CpuRecord}
 use Rattle.order.specs.Outcome.{Outcome, refuse, accept, answer_of, cells_after, applied_to, accepted}
 use Rattle.machine.specs.State.{cpu_slots, is_thread, is_priority, tag_bits, thread_word, names, is_current, idle_run, free_lock, no_cpu}
-use Rattle.machine.specs.declared.Current.{Current}
-use Rattle.machine.specs.declared.Place.{Place}
 use Rattle.machine.specs.declared.Setup.{Setup}
 use Rattle.machine.specs.declared.Run.{Run}
 use Rattle.machine.specs.declared.Cpu.{Cpu}
@@ -71,14 +71,14 @@ abbrev pub ranged : {W : Type 0} → Bool → W → Answer ℕ × W → Answer �
 ranged in_range cells o = cond in_range o (answer EINVAL 0, cells)
 
 -- The CPU has a thread.
-abbrev pub occupied : Current → Bool
-occupied Current.None = false
-occupied (Current.Thread t) = true
+abbrev pub occupied : Option ThreadId → Bool
+occupied None = false
+occupied (Some t) = true
 
 -- The thread has a place.
-abbrev pub placed : Place → Bool
-placed Place.Nowhere = false
-placed (Place.On c) = true
+abbrev pub placed : Option CpuId → Bool
+placed None = false
+placed (Some c) = true
 
 -- 0 up: active EALREADY. Leaves the CPU active and idle.
 unfoldable pub up : Run → Outcome (Answer ℕ) Run
@@ -91,8 +91,8 @@ down run = cond (not run.active) (refused EALREADY 0) (cond (occupied run.curren
 -- The thread is current with its priority, and the CPU is its place.
 abbrev pub seated : ℕ → ℕ → Run → Thread → Run × Thread
 seated c t run thread = (
-  record { active = run.active; current = Current.Thread (record { 0 = t }); priority = thread.priority },
-  record { mask = thread.mask; priority = thread.priority; place = Place.On (record { 0 = c }) },
+  record { active = run.active; current = Some (record { 0 = t }); priority = thread.priority },
+  record { mask = thread.mask; priority = thread.priority; place = Some (record { 0 = c }) },
 )
 
 -- 2 put: not active EINVAL; CPU occupied or thread placed EBUSY; mask bit clear EINVAL. Makes the thread current and sets its place.
@@ -105,7 +105,7 @@ put c t run thread =
 
 -- The CPU is active and idle, and the thread has no place.
 abbrev pub unseated : Thread → Run × Thread
-unseated thread = (idle_run true, record { mask = thread.mask; priority = thread.priority; place = Place.Nowhere })
+unseated thread = (idle_run true, record { mask = thread.mask; priority = thread.priority; place = None })
 
 -- 3 take: current thread differs or is none EPERM; hold > 0 EBUSY. Leaves the CPU idle and clears the thread's place.
 unfoldable pub take : ℕ → ℕ → Run → Thread → Outcome (Answer ℕ) (Run × Thread)
@@ -153,9 +153,9 @@ settled s c t lock a =
     (refused a.code a.value.nest_count)
 
 -- No thread on cpu EINVAL; then the lock's rule for its current thread. (One from 32 on, which no well-formed machine has, is no thread.)
-abbrev pub lock_by : Setup → Operation → ℕ → Current → Lock → Outcome (Answer ℕ) Lock
-lock_by s op c Current.None lock = refused EINVAL lock.state.nest_count
-lock_by s op c (Current.Thread t) lock =
+abbrev pub lock_by : Setup → Operation → ℕ → Option ThreadId → Lock → Outcome (Answer ℕ) Lock
+lock_by s op c None lock = refused EINVAL lock.state.nest_count
+lock_by s op c (Some t) lock =
     cond (is_thread t.0) (settled s c t.0 lock (ruled s op c t.0 lock)) (refused EINVAL lock.state.nest_count)
 
 -- 4 acquire, 6 release.

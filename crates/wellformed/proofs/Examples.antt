@@ -1,5 +1,6 @@
 -- Worked examples, closed by computing: machines that are well-formed, and for each clause a machine that fails in that clause alone.
 -- Assumes nothing.
+use Rattle.std.specs.Prelude.{None, Some}
 use mathlib.Core.Path.{◌≡◌, refl}
 use mathlib.Core.Bool.{Bool, true, false}
 use mathlib.Core.List.{List, [], ◌∷◌, map}
@@ -10,11 +11,8 @@ use lib.ListN.{set, replicate}
 use Rattle.words.specs.Bit.{bit}
 use Rattle.words.specs.Below.{all_below}
 use Rattle.spinlock.specs.Lock.{free_record, valid_record}
-use Rattle.spinlock.specs.declared.Owner.{Owner}
 use Rattle.machine.specs.State.{cpu_slots, thread_count, lock_count, is_priority, idle_run, thread_mask, fresh_machine, fresh_threads}
 use Rattle.machine.specs.declared.Cpu.{Cpu}
-use Rattle.machine.specs.declared.Current.{Current}
-use Rattle.machine.specs.declared.Place.{Place}
 use Rattle.machine.specs.declared.Thread.{Thread}
 use Rattle.machine.specs.declared.Lock.{Lock}
 use Rattle.machine.specs.declared.Setup.{Setup}
@@ -71,16 +69,16 @@ with_lock v m = record { setup = m.setup; cpus = m.cpus; threads = m.threads; lo
 -- Thread 0 runs on CPU 0 and holds lock 0 at depth 2. The word is its thread word 4 with CPU 0.
 abbrev holding : Machine
 holding =
-    with_cpu 0 (record { run = record { active = true; current = Current.Thread (record { 0 = 0 }); priority = pos 0 }; hold = 2 })
-    (with_thread (record { mask = 1; priority = pos 0; place = Place.On (record { 0 = 0 }) })
-    (with_lock (record { state = record { owner = Owner.Thread 0; nest_count = 2; irq_saved = true }; word = 4 }) (fresh 1 true)))
+    with_cpu 0 (record { run = record { active = true; current = Some (record { 0 = 0 }); priority = pos 0 }; hold = 2 })
+    (with_thread (record { mask = 1; priority = pos 0; place = Some (record { 0 = 0 }) })
+    (with_lock (record { state = record { owner = Some 0; nest_count = 2; irq_saved = true }; word = 4 }) (fresh 1 true)))
 
 -- The same on CPU 15 of a wide machine. The word is the thread word 16 with CPU 15.
 abbrev holding_on15 : Machine
 holding_on15 =
-    with_cpu 15 (record { run = record { active = true; current = Current.Thread (record { 0 = 0 }); priority = pos 0 }; hold = 2 })
-    (with_thread (record { mask = 0x8000; priority = pos 0; place = Place.On (record { 0 = 15 }) })
-    (with_lock (record { state = record { owner = Owner.Thread 0; nest_count = 2; irq_saved = true }; word = 31 }) (fresh_by true 16 true)))
+    with_cpu 15 (record { run = record { active = true; current = Some (record { 0 = 0 }); priority = pos 0 }; hold = 2 })
+    (with_thread (record { mask = 0x8000; priority = pos 0; place = Some (record { 0 = 15 }) })
+    (with_lock (record { state = record { owner = Some 0; nest_count = 2; irq_saved = true }; word = 31 }) (fresh_by true 16 true)))
 
 pub these_are_well_formed :
     map well_formed
@@ -112,15 +110,15 @@ free_with_word = with_lock (record { state = free_record; word = 4 }) (fresh 1 f
 -- A lock of a wide machine with the word that a narrow one would give it: 4 with CPU 0. Here it names CPU 4, which counts it.
 abbrev narrow_word : Machine
 narrow_word =
-    with_cpu 0 (record { run = record { active = true; current = Current.Thread (record { 0 = 0 }); priority = pos 0 }; hold = 0 })
+    with_cpu 0 (record { run = record { active = true; current = Some (record { 0 = 0 }); priority = pos 0 }; hold = 0 })
     (with_cpu 4 (record { run = idle_run true; hold = 2 })
-    (with_thread (record { mask = 1; priority = pos 0; place = Place.On (record { 0 = 0 }) })
-    (with_lock (record { state = record { owner = Owner.Thread 0; nest_count = 2; irq_saved = true }; word = 4 }) (fresh_by true 16 true))))
+    (with_thread (record { mask = 1; priority = pos 0; place = Some (record { 0 = 0 }) })
+    (with_lock (record { state = record { owner = Some 0; nest_count = 2; irq_saved = true }; word = 4 }) (fresh_by true 16 true))))
 
 -- A hold that leaves CPU 15 out.
 abbrev forgets15 : Machine
 forgets15 =
-    with_cpu 15 (record { run = record { active = true; current = Current.Thread (record { 0 = 0 }); priority = pos 0 }; hold = 0 }) holding_on15
+    with_cpu 15 (record { run = record { active = true; current = Some (record { 0 = 0 }); priority = pos 0 }; hold = 0 }) holding_on15
 
 abbrev hold_without_lock : Machine
 hold_without_lock = with_cpu 0 (record { run = idle_run true; hold = 1 }) (fresh 1 false)
@@ -128,24 +126,24 @@ hold_without_lock = with_cpu 0 (record { run = idle_run true; hold = 1 }) (fresh
 -- The CPU's priority is not its thread's.
 abbrev other_priority : Machine
 other_priority =
-    with_cpu 0 (record { run = record { active = true; current = Current.Thread (record { 0 = 0 }); priority = pos 1 }; hold = 0 })
-    (with_thread (record { mask = 1; priority = pos 0; place = Place.On (record { 0 = 0 }) }) (fresh 1 false))
+    with_cpu 0 (record { run = record { active = true; current = Some (record { 0 = 0 }); priority = pos 1 }; hold = 0 })
+    (with_thread (record { mask = 1; priority = pos 0; place = Some (record { 0 = 0 }) }) (fresh 1 false))
 
 abbrev placed_and_not_run : Machine
-placed_and_not_run = with_thread (record { mask = 1; priority = pos 0; place = Place.On (record { 0 = 0 }) }) (fresh 1 false)
+placed_and_not_run = with_thread (record { mask = 1; priority = pos 0; place = Some (record { 0 = 0 }) }) (fresh 1 false)
 
 abbrev idle_at_zero : Machine
-idle_at_zero = with_cpu 0 (record { run = record { active = true; current = Current.None; priority = pos 0 }; hold = 0 }) (fresh 1 false)
+idle_at_zero = with_cpu 0 (record { run = record { active = true; current = None; priority = pos 0 }; hold = 0 }) (fresh 1 false)
 
 abbrev thread_at128 : Machine
-thread_at128 = with_thread (record { mask = 1; priority = pos 128; place = Place.Nowhere }) (fresh 1 false)
+thread_at128 = with_thread (record { mask = 1; priority = pos 128; place = None }) (fresh 1 false)
 
 abbrev pinned_to_two : Machine
-pinned_to_two = with_thread (record { mask = 3; priority = pos 0; place = Place.Nowhere }) (fresh 2 true)
+pinned_to_two = with_thread (record { mask = 3; priority = pos 0; place = None }) (fresh 2 true)
 
 -- The font thread of a machine of four CPUs, pinned to CPU 9.
 abbrev pinned_to9_of4 : Machine
-pinned_to9_of4 = with_thread (record { mask = 0x200; priority = pos 0; place = Place.Nowhere }) (fresh 4 true)
+pinned_to9_of4 = with_thread (record { mask = 0x200; priority = pos 0; place = None }) (fresh 4 true)
 
 abbrev broken : List Machine
 broken =
@@ -167,7 +165,7 @@ these_are_not = refl
 
 -- The first bit past sixteen CPUs.
 abbrev pinned_to16 : Machine
-pinned_to16 = with_thread (record { mask = 0x1_0000; priority = pos 0; place = Place.Nowhere }) (fresh_by true 16 true)
+pinned_to16 = with_thread (record { mask = 0x1_0000; priority = pos 0; place = None }) (fresh_by true 16 true)
 
 -- Machines that a wide tag makes possible, and that fail in one clause: more CPUs than it tells apart, a narrow word, CPU 15's hold, and a pin
 -- past CPU 15.

@@ -1,5 +1,6 @@
 -- What well-formed says, as four facts: size, seats, locks and counts. Each is stated over the cells that it speaks of, as functions of the CPU, the
 -- thread or the lock, so that it does not see what other cells do. And a law each way between the facts and the test. Assumes nothing.
+use Rattle.std.specs.Prelude.{Option, None, Some}
 use mathlib.Core.Path.{◌≡◌, refl, ap}
 use mathlib.Core.Logic.{◌⊎◌, inl, inr}
 use mathlib.Core.Bool.{true, false, ◌&&◌, ◌||◌, not}
@@ -16,12 +17,9 @@ use Rattle.words.specs.Tag.{word_of, cpu_of}
 use Rattle.words.proofs.Below.{both, all_at, all_from}
 use Rattle.words.proofs.Choice.{bool_ind, below_or, and_left, and_right}
 use Rattle.spinlock.specs.Lock.{max_nest_depth, valid_by, valid_record}
-use Rattle.spinlock.specs.declared.Owner.{Owner}
 use Rattle.machine.specs.State.{cpu_slots, thread_count, lock_count, tag_bits, thread_word, cpu_at, thread_at, lock_at}
 use Rattle.machine.specs.declared.CpuId.{CpuId}
 use Rattle.machine.specs.declared.ThreadId.{ThreadId}
-use Rattle.machine.specs.declared.Current.{Current}
-use Rattle.machine.specs.declared.Place.{Place}
 use Rattle.machine.specs.declared.Run.{Run}
 use Rattle.machine.specs.declared.Thread.{Thread}
 use Rattle.machine.specs.declared.Lock.{Lock}
@@ -51,7 +49,7 @@ use Rattle.wellformed.specs.WellFormed.{
 abbrev pub run_at : Machine → ℕ → Run
 run_at m c = (cpu_at m c).run
 
-abbrev pub current_at : Machine → ℕ → Current
+abbrev pub current_at : Machine → ℕ → Option ThreadId
 current_at m c = (cpu_at m c).run.current
 
 abbrev pub hold_at : Machine → ℕ → ℕ
@@ -59,7 +57,7 @@ hold_at m c = (cpu_at m c).hold
 
 -- Thread t is current on CPU c.
 abbrev pub Runs : Machine → ℕ → ℕ → Type 0
-Runs m c t = current_at m c ≡ Current.Thread (record { 0 = t })
+Runs m c t = current_at m c ≡ Some (record { 0 = t })
 
 -- ---- seats: run cells and threads
 
@@ -68,19 +66,19 @@ pub record Carried (c t : ℕ) (r : Run) (k : Thread) : Type 0 where
   pub below : t < thread_count
   pub active : r.active ≡ true
   pub priority : r.priority ≡ k.priority
-  pub place : k.place ≡ Place.On (record { 0 = c })
+  pub place : k.place ≡ Some (record { 0 = c })
   pub allowed : bit c k.mask ≡ true
 
 -- The run cell of CPU c: an unused slot is down, a current thread is carried, and without one the priority is 128.
 pub record GoodCpu (s : Setup) (thread : ℕ → Thread) (c : ℕ) (r : Run) : Type 0 where
   pub down : s.n ≤ c → r.active ≡ false
-  pub current : (t : ThreadId) → r.current ≡ Current.Thread t → Carried c t.0 r (thread t.0)
-  pub idle : r.current ≡ Current.None → r.priority ≡ pos 128
+  pub current : (t : ThreadId) → r.current ≡ Some t → Carried c t.0 r (thread t.0)
+  pub idle : r.current ≡ None → r.priority ≡ pos 128
 
 -- Thread t has CPU c as its place, whose current thread is o.
-pub record Placed (s : Setup) (o : Current) (t c : ℕ) : Type 0 where
+pub record Placed (s : Setup) (o : Option ThreadId) (t c : ℕ) : Type 0 where
   pub below : c < s.n
-  pub current : o ≡ Current.Thread (record { 0 = t })
+  pub current : o ≡ Some (record { 0 = t })
 
 -- With pin-only a mask has one bit, and no bit from n on.
 pub record Pinned (s : Setup) (bits : ℕ) : Type 0 where
@@ -94,8 +92,8 @@ pub record Fit (s : Setup) (p : ℤ) (bits : ℕ) : Type 0 where
   pub mask : Pinned s bits
 
 -- The cell of thread t: it is the current thread of its place, and fit.
-pub record GoodThread (s : Setup) (current : ℕ → Current) (t : ℕ) (k : Thread) : Type 0 where
-  pub place : (c : CpuId) → k.place ≡ Place.On c → Placed s (current c.0) t c.0
+pub record GoodThread (s : Setup) (current : ℕ → Option ThreadId) (t : ℕ) (k : Thread) : Type 0 where
+  pub place : (c : CpuId) → k.place ≡ Some c → Placed s (current c.0) t c.0
   pub fit : Fit s k.priority k.mask
 
 -- Each run cell agrees with the threads, and each thread with the run cells.
@@ -112,21 +110,21 @@ pub record FreeLock (k : Lock) : Type 0 where
   pub word : k.word ≡ 0
 
 -- A lock whose owner is thread t; o is the current thread of the CPU that its word names.
-pub record HeldLock (s : Setup) (o : Current) (k : Lock) (t : ℕ) : Type 0 where
+pub record HeldLock (s : Setup) (o : Option ThreadId) (k : Lock) (t : ℕ) : Type 0 where
   pub some : 1 ≤ k.state.nest_count
   pub most : k.state.nest_count ≤ max_nest_depth
   pub flag : k.state.irq_saved ≡ true
   pub word : k.word ≡ word_of (cpu_of (tag_bits s) k.word) (thread_word s t)
   pub below : cpu_of (tag_bits s) k.word < s.n
-  pub current : o ≡ Current.Thread (record { 0 = t })
+  pub current : o ≡ Some (record { 0 = t })
 
 -- A lock's cell: with no owner it is free, and with an owner it is held.
-pub record GoodLock (s : Setup) (current : ℕ → Current) (k : Lock) : Type 0 where
-  pub free : k.state.owner ≡ Owner.None → FreeLock k
-  pub held : (t : ℕ) → k.state.owner ≡ Owner.Thread t → HeldLock s (current (cpu_of (tag_bits s) k.word)) k t
+pub record GoodLock (s : Setup) (current : ℕ → Option ThreadId) (k : Lock) : Type 0 where
+  pub free : k.state.owner ≡ None → FreeLock k
+  pub held : (t : ℕ) → k.state.owner ≡ Some t → HeldLock s (current (cpu_of (tag_bits s) k.word)) k t
 
 -- Each lock is a good one.
-abbrev pub Locks : Setup → (ℕ → Current) → (ℕ → Lock) → Type 0
+abbrev pub Locks : Setup → (ℕ → Option ThreadId) → (ℕ → Lock) → Type 0
 Locks s current lock = (l : ℕ) → l < lock_count → GoodLock s current (lock l)
 
 -- ---- counts: holds and the sums of depths
@@ -150,11 +148,11 @@ pub record WellFormed (m : Machine) : Type 0 where
 
 -- ---- each test and its facts
 
-place_names : (place : Place) (c : ℕ) → is_place place c ≡ true → place ≡ Place.On (record { 0 = c })
-place_names Place.Nowhere c e = let o : ◌≡◌ {A = ℕ} 0 1 = cc in absurd (omega arith)
-place_names (Place.On d) c e = let same = eqb-true d.0 c e in ap (λ (n : ℕ). Place.On (record { 0 = n })) same
+place_names : (place : Option CpuId) (c : ℕ) → is_place place c ≡ true → place ≡ Some (record { 0 = c })
+place_names None c e = let o : ◌≡◌ {A = ℕ} 0 1 = cc in absurd (omega arith)
+place_names (Some d) c e = let same = eqb-true d.0 c e in ap (λ (n : ℕ). Some (record { 0 = n })) same
 
-place_is : (place : Place) (c : ℕ) → place ≡ Place.On (record { 0 = c }) → is_place place c ≡ true
+place_is : (place : Option CpuId) (c : ℕ) → place ≡ Some (record { 0 = c }) → is_place place c ≡ true
 place_is place c e = rw e (eq-eqb c c refl)
 
 slot_says : (m : Machine) (c : ℕ) → slot_ok m c ≡ true → m.setup.n ≤ c → ((run_at m c).active ≡ false) × (hold_at m c ≡ 0)
@@ -171,7 +169,7 @@ slot_back m c down unused = go (below_or c m.setup.n)
     go (inl h) = rw (lt-ltb c m.setup.n h)
     go (inr h) = rw (le-ltb c m.setup.n h, down h, unused h)
 
-free_says : (m : Machine) (k : Lock) → lock_by m.setup m.cpus k ≡ true → k.state.owner ≡ Owner.None → FreeLock k
+free_says : (m : Machine) (k : Lock) → lock_by m.setup m.cpus k ≡ true → k.state.owner ≡ None → FreeLock k
 unfolding valid_record
 free_says m k e none =
     let test : (eqb k.state.nest_count 0 && not k.state.irq_saved) && eqb k.word 0 ≡ true = rw none at e in
@@ -182,13 +180,13 @@ free_says m k e none =
       word = eqb-true k.word 0 (and_right (eqb k.state.nest_count 0 && not k.state.irq_saved) _ test);
     }
 
-held_says : (m : Machine) (k : Lock) (t : ℕ) → lock_by m.setup m.cpus k ≡ true → k.state.owner ≡ Owner.Thread t
+held_says : (m : Machine) (k : Lock) (t : ℕ) → lock_by m.setup m.cpus k ≡ true → k.state.owner ≡ Some t
     → HeldLock m.setup (current_at m (cpu_of (tag_bits m.setup) k.word)) k t
 unfolding valid_record
 held_says m k t e owned =
     let depth = k.state.nest_count in
     let cpu = cpu_of (tag_bits m.setup) k.word in
-    let test : (ltb 0 depth && leb depth max_nest_depth) && owner_ok m.setup m.cpus k (Owner.Thread t) ≡ true = rw owned at e in
+    let test : (ltb 0 depth && leb depth max_nest_depth) && owner_ok m.setup m.cpus k (Some t) ≡ true = rw owned at e in
     let valid = and_left (ltb 0 depth && leb depth max_nest_depth) _ test in
     let owner = and_right (ltb 0 depth && leb depth max_nest_depth) _ test in
     let made = and_right k.state.irq_saved _ owner in
@@ -206,23 +204,23 @@ lock_back : (m : Machine) (k : Lock) → GoodLock m.setup (current_at m) k → l
 unfolding valid_record
 lock_back m k good = go k.state.owner good.free good.held
   where
-    go : (o : Owner) → (o ≡ Owner.None → FreeLock k)
-        → ((t : ℕ) → o ≡ Owner.Thread t → HeldLock m.setup (current_at m (cpu_of (tag_bits m.setup) k.word)) k t)
+    go : (o : Option ℕ) → (o ≡ None → FreeLock k)
+        → ((t : ℕ) → o ≡ Some t → HeldLock m.setup (current_at m (cpu_of (tag_bits m.setup) k.word)) k t)
         → valid_by o k.state.nest_count k.state.irq_saved && owner_ok m.setup m.cpus k o ≡ true
-    go Owner.None f h =
+    go None f h =
         let facts = f refl in
         both (both (eq-eqb _ _ facts.depth) (ap not facts.flag)) (eq-eqb _ _ facts.word)
-    go (Owner.Thread t) f h =
+    go (Some t) f h =
         let facts = h t refl in
         both (both (lt-ltb _ _ facts.some) (le-leb _ _ facts.most))
         (both facts.flag (both (eq-eqb _ _ facts.word) (both (lt-ltb _ _ facts.below) (current_is _ t facts.current))))
 
-current_says : (m : Machine) (c : ℕ) (t : ThreadId) → current_ok m c ≡ true → current_at m c ≡ Current.Thread t
+current_says : (m : Machine) (c : ℕ) (t : ThreadId) → current_ok m c ≡ true → current_at m c ≡ Some t
     → Carried c t.0 (run_at m c) (thread_at m t.0)
 current_says m c t e runs =
     let cpu = run_at m c in
     let thread = thread_at m t.0 in
-    let test : current_by m.threads c cpu (Current.Thread t) ≡ true = rw runs at e in
+    let test : current_by m.threads c cpu (Some t) ≡ true = rw runs at e in
     let up = and_right (ltb t.0 thread_count) _ test in
     let carries = and_right cpu.active _ up in
     let seat = and_right (eq_z cpu.priority thread.priority) _ carries in
@@ -237,18 +235,18 @@ current_says m c t e runs =
 current_back : (m : Machine) (c : ℕ) → GoodCpu m.setup (thread_at m) c (run_at m c) → current_ok m c ≡ true
 current_back m c good = go (current_at m c) good.current
   where
-    go : (o : Current) → ((t : ThreadId) → o ≡ Current.Thread t → Carried c t.0 (run_at m c) (thread_at m t.0))
+    go : (o : Option ThreadId) → ((t : ThreadId) → o ≡ Some t → Carried c t.0 (run_at m c) (thread_at m t.0))
         → current_by m.threads c (run_at m c) o ≡ true
-    go Current.None f = refl
-    go (Current.Thread t) f =
+    go None f = refl
+    go (Some t) f =
         let facts = f t refl in
         both (lt-ltb _ _ facts.below)
         (both facts.active (both (signed_same facts.priority) (both (place_is _ c facts.place) facts.allowed)))
 
-place_says : (m : Machine) (t : ℕ) (c : CpuId) → place_ok m t ≡ true → (thread_at m t).place ≡ Place.On c
+place_says : (m : Machine) (t : ℕ) (c : CpuId) → place_ok m t ≡ true → (thread_at m t).place ≡ Some c
     → Placed m.setup (current_at m c.0) t c.0
 place_says m t c e placed =
-    let test : place_by m.setup.n m.cpus t (Place.On c) ≡ true = rw placed at e in
+    let test : place_by m.setup.n m.cpus t (Some c) ≡ true = rw placed at e in
     record {
       below = ltb-true c.0 m.setup.n (and_left (ltb c.0 m.setup.n) _ test);
       current = current_names (current_at m c.0) t (and_right (ltb c.0 m.setup.n) _ test);
@@ -257,20 +255,20 @@ place_says m t c e placed =
 place_back : (m : Machine) (t : ℕ) → GoodThread m.setup (current_at m) t (thread_at m t) → place_ok m t ≡ true
 place_back m t good = go (thread_at m t).place good.place
   where
-    go : (o : Place) → ((c : CpuId) → o ≡ Place.On c → Placed m.setup (current_at m c.0) t c.0)
+    go : (o : Option CpuId) → ((c : CpuId) → o ≡ Some c → Placed m.setup (current_at m c.0) t c.0)
         → place_by m.setup.n m.cpus t o ≡ true
-    go Place.Nowhere f = refl
-    go (Place.On c) f = let facts = f c refl in both (lt-ltb _ _ facts.below) (current_is _ t facts.current)
+    go None f = refl
+    go (Some c) f = let facts = f c refl in both (lt-ltb _ _ facts.below) (current_is _ t facts.current)
 
-idle_says : (m : Machine) (c : ℕ) → idle_ok m c ≡ true → current_at m c ≡ Current.None → (run_at m c).priority ≡ pos 128
+idle_says : (m : Machine) (c : ℕ) → idle_ok m c ≡ true → current_at m c ≡ None → (run_at m c).priority ≡ pos 128
 idle_says m c e none = same_signed (run_at m c).priority (pos 128) (rw none at e)
 
 idle_back : (m : Machine) (c : ℕ) → GoodCpu m.setup (thread_at m) c (run_at m c) → idle_ok m c ≡ true
 idle_back m c good = go (current_at m c) good.idle
   where
-    go : (o : Current) → (o ≡ Current.None → (run_at m c).priority ≡ pos 128) → idle_by (run_at m c).priority o ≡ true
-    go Current.None f = signed_same (f refl)
-    go (Current.Thread t) f = refl
+    go : (o : Option ThreadId) → (o ≡ None → (run_at m c).priority ≡ pos 128) → idle_by (run_at m c).priority o ≡ true
+    go None f = signed_same (f refl)
+    go (Some t) f = refl
 
 mask_fact : (m : Machine) (t : ℕ) → mask_ok m t ≡ true → m.setup.pin_only ≡ true → ones (thread_at m t).mask ≡ 1
 mask_fact m t e pinned = eqb-true (ones (thread_at m t).mask) 1 (rw pinned at e)

@@ -1,4 +1,5 @@
 -- A CPU that the machine does not have is refused; else by the current thread. Assumes nothing.
+use Rattle.std.specs.Prelude.{Some}
 use mathlib.Core.Path.{sym, ◌∙◌}
 use borrow.Author.Tests.{not-true, not-false}
 use Rattle.rules.proofs.Ranged.{within, outside}
@@ -18,7 +19,7 @@ returns-then-exists c =
     let a = c.args in
     let has = sym c.has_cpu.ensures ∙ c.if-not-has_cpu.false in
     let there = sym c.exists.ensures ∙ c.if-exists.true in
-    c.settled.ensures ∙ by_thread a.setup a.operation a.c.0 a.cpu a.lock c.in-Thread.is there
+    c.settled.ensures ∙ by_thread a.setup a.operation a.c.0 a.cpu a.lock c.in-Some.is there
     ∙ within (a.cpu, a.lock) _ has
 
 pub returns-else-exists : goal.returns-else-exists
@@ -26,5 +27,5 @@ returns-else-exists c =
     let a = c.args in
     let has = sym c.has_cpu.ensures ∙ c.if-not-has_cpu.false in
     let missing = sym c.exists.ensures ∙ c.if-exists.false in
-    c.no_thread-else-exists.ensures ∙ by_stranger a.setup a.operation a.c.0 a.cpu a.lock c.in-Thread.is missing
+    c.no_thread-else-exists.ensures ∙ by_stranger a.setup a.operation a.c.0 a.cpu a.lock c.in-Some.is missing
     ∙ within (a.cpu, a.lock) _ has

@@ -1,6 +1,5 @@
 -- Each array is its element repeated. Assumes nothing.
 use Rattle.machine.specs.State.{fresh_machine}
-use borrow.Author.Rules.{rules}
 use Rattle.machine.proofs.fresh_machine.Goals as goal
 
 pub returns : goal.returns

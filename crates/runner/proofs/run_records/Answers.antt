@@ -1,6 +1,7 @@
 -- The loop's invariant: the machine is the state, the room the answers and the answer the last one, after the records passed; the setup stays.
 -- A turn is the law of one record, by the arm that it takes (`turned`), and carries all of them one further. The measure is the records that are
 -- left. Assumes nothing.
+use Rattle.std.specs.Prelude.{Option}
 use mathlib.Core.Path.{◌≡◌, sym, ap, ◌∙◌, subst}
 use mathlib.Core.Logic.{⊎_elim}
 use Prim.Native.Nat.{◌-◌, ◌/◌, ◌≤◌, ◌<◌}
@@ -95,7 +96,7 @@ loop-i-preserved c =
       | in-Ipi w ↦
           renamed m _ (ap answered_says w.answer-is) w.m-is
           (ipi_ran m same ok _ r is w.in-Ipi.is w.ipi-answer.result w.ipi-answer.ensures)
-      | in-Owner w ↦
+      | in-Option ℕ w ↦
           renamed m _ (ap answered_says w.answer-is) w.m-is
           (owner_ran m same ok _ r is w.in-Owner.is w.owner-answer.result w.owner-answer.ensures)
       | in-Unwind+then-is_ok-3+else-loop-l-test w ↦

@@ -1,5 +1,4 @@
 -- The entry that is read is the rule's (`entry_again`), at the last row and the column of the situation. Assumes nothing.
-use borrow.Author.Rules.{rules}
 use Rattle.spinlock.proofs.Table.{entry_again}
 use Rattle.spinlock.proofs.code_again.Goals as goal
 

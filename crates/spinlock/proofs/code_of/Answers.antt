@@ -1,5 +1,4 @@
 -- The entry that is read is the rule's (`entry`), at the row and the column that the two index functions give. Assumes nothing.
-use borrow.Author.Rules.{rules}
 use Rattle.spinlock.proofs.Table.{entry}
 use Rattle.spinlock.proofs.code_of.Goals as goal
 

@@ -1,13 +1,10 @@
 -- An invalid record is refused; of a valid one the code is the table's, and the record the plain acquire's, which a refusal leaves too.
 -- Assumes nothing.
-use borrow.Author.Rules.{rules}
-use mathlib.Core.Path.{sym, ap, ap₂, ◌∙◌}
-use mathlib.Core.Bool.{false}
+use mathlib.Core.Path.{sym, ap₂, ◌∙◌}
 use Rattle.error.specs.Answer.{answer}
 use Rattle.error.proofs.Answers.{same_code, same_value, says_refused}
 use Rattle.error.proofs.OneResult.{refusal_is_not_ok}
 use Rattle.spinlock.specs.Lock.{acquire_again}
-use Rattle.spinlock.specs.Table.{code_again}
 use Rattle.spinlock.proofs.Laws.{again_by, again_refused_unchanged}
 use Rattle.spinlock.proofs.SpinlockState.acquire_again.Goals as goal
 

@@ -1,6 +1,5 @@
 -- Each arm is the rule's clause for its operation and situation; what the situation says of the depth is what the two steps ask.
 -- Assumes nothing.
-use borrow.Author.Rules.{rules}
 use mathlib.Core.Path.{sym, ◌∙◌}
 use Rattle.spinlock.specs.Lock.{after}
 use Rattle.spinlock.proofs.Situations.{own_says, full_says}

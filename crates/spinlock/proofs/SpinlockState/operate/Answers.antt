@@ -1,6 +1,5 @@
 -- An invalid record is the rule's refusal; a valid one goes by its situation, with the table's code, and what is refused stays as it was.
 -- Assumes nothing.
-use borrow.Author.Rules.{rules}
 use mathlib.Core.Path.{sym, ap₂, ◌∙◌}
 use Rattle.error.specs.Answer.{answer}
 use Rattle.error.proofs.Answers.{says_refused}

@@ -2,12 +2,12 @@
 use borrow.Author.Rules.{rules}
 use mathlib.Core.Path.{sym, ◌∙◌}
 use Rattle.spinlock.specs.Lock.{read}
-use Rattle.spinlock_reads.proofs.answered.Goals as goal
+use Rattle.spinlock_reads.proofs.read.Goals as goal
 
 pub returns-then-not-valid : goal.returns-then-not-valid
 unfolding read
-returns-then-not-valid c = simp (sym c.valid.ensures ∙ c.if-not-valid.true)
+returns-then-not-valid g c refused = simp (sym c.valid.ensures ∙ c.if-not-valid.true)
 
 pub returns : goal.returns
 unfolding read
-returns c = simp (sym c.valid.ensures ∙ c.if-not-valid.false)
+returns g c refused = simp (sym c.valid.ensures ∙ c.if-not-valid.false)
