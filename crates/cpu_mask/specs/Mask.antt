@@ -2,21 +2,9 @@
 use Rattle.std.specs.Prelude.{ℕ, ◌^◌, Bool, ◌&&◌, not, cond, eqb, leb, ltb}
 use Rattle.std.specs.Int.Bits.{bit_and, bit_or}
 use Rattle.std.specs.Int.Count.{ones}
-use Rattle.error.specs.Codes.{OK, EINVAL, number_of}
+use Rattle.error.specs.Codes.{OK, EINVAL}
 use Rattle.error.specs.Answer.{Answer, answer}
 use Rattle.words.specs.Bit.{bit_not}
-use Rattle.cpu_mask.specs.declared.CpuMaskResult.{CpuMaskResult}
-use Rattle.cpu_mask.specs.declared.PinMask.{PinMask}
-use Rattle.cpu_mask.specs.declared.PinMask.TheVariants.{Only, BadCpu}
-
--- What a mask's result says: its code and its mask.
-abbrev pub mask_says : CpuMaskResult → Answer ℕ
-mask_says a = answer (number_of a.error) a.mask
-
--- What a pin's result says: the mask of one CPU, or EINVAL.
-abbrev pub pin_says : PinMask → Answer ℕ
-pin_says (Only m) = answer OK m
-pin_says BadCpu = answer EINVAL 0
 
 -- How many bits a mask has.
 abbrev pub mask_bits : ℕ

@@ -1,15 +1,10 @@
 -- 01, "IPI": which CPUs get an interrupt.
 use Rattle.std.specs.Prelude.{ℕ, ◌^◌, Bool, false, ◌&&◌, not, cond, List, eqb, ltb, leb, ℤ, pos, get_or}
 use Rattle.std.specs.Int.Signed.{lt_z}
-use Rattle.error.specs.Codes.{OK, EINVAL, number_of}
+use Rattle.error.specs.Codes.{OK, EINVAL}
 use Rattle.error.specs.Answer.{Answer, answer}
 use Rattle.words.specs.Bit.{bit, bits_of}
 use Rattle.ipi.specs.declared.CpuRecord.{CpuRecord}
-use Rattle.ipi.specs.declared.IpiMask.{IpiMask}
-
--- What an interrupt mask's result says: its code and its mask.
-abbrev pub ipi_says : IpiMask → Answer ℕ
-ipi_says a = answer (number_of a.code) a.mask
 
 -- How many CPUs a mask covers.
 abbrev pub max_ipi_cpus : ℕ

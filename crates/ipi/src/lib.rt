@@ -6,49 +6,41 @@
 
 #![tactic(auto)]
 
-ghost use Rattle.std.specs.Prelude.{◌≡◌, ◌&&◌};
+ghost use Rattle.std.specs.Prelude.{◌≡◌, ◌&&◌, false};
 ghost use Rattle.std.specs.Int.Signed.{lt_z};
-ghost use Rattle.error.specs.Answer.{yes_no_says};
-ghost use Rattle.ipi.specs.Ipi.{counts_fit, ipi_says, compute_ipi_mask, validate_ipi_mask};
+ghost use Rattle.error.specs.Answer.{says};
+ghost use Rattle.ipi.specs.Ipi.{counts_fit, compute_ipi_mask, validate_ipi_mask};
 
-use error::{Code, YesNo};
+use error::Refusal;
 
 // Upstream's MAX_CPUS of this file: how many CPUs an interrupt mask covers.
 pub const MAX_IPI_CPUS: u32 = 16;
 
 // One CPU: whether it is up, and the priority of what it runs.
-#[derive(Clone, Copy)]
+#[derive(Clone, Copy, Debug, PartialEq, Eq)]
 pub struct CpuRecord {
     pub active: bool,
     pub priority: i32,
 }
 
-// The CPUs to interrupt, or none with the code of the refusal.
-#[derive(Clone, Copy)]
-pub struct IpiMask {
-    pub code: Code,
-    pub mask: u32,
-}
-
-// Whether a CPU is up and runs something less important than the target.
+// Whether a CPU is up and runs something less important than the target. By `&`, and shifted to its bit below: a branch on what a record says is
+// guessed wrong, and a full mask then takes more than twice as long.
 fn runs_less(target_prio: i32, cpu: CpuRecord) -> bool
     ensures { result ≡ cpu.active && lt_z target_prio cpu.priority }
 {
-    let active = cpu.active;
-    let priority = cpu.priority;
-    active & (target_prio < priority)
+    cpu.active & (target_prio < cpu.priority)
 }
 
 // Whether there are at most so many CPUs as are allowed, and the current one is among them.
 fn counts_fit(current_cpu: u32, num_cpus: u32, max_cpus: u32) -> bool
     ensures { result ≡ counts_fit current_cpu num_cpus max_cpus }
 {
-    (max_cpus <= MAX_IPI_CPUS) & ((num_cpus <= max_cpus) & (current_cpu < num_cpus))
+    max_cpus <= MAX_IPI_CPUS && num_cpus <= max_cpus && current_cpu < num_cpus
 }
 
 // The mask of the CPUs to interrupt for a thread of this priority and affinity. Those of the affinity mask below num_cpus can match, but for the
-// current one. The walk goes from one of them to the next by trailing zeros and looks at no other record. What a record says is shifted to its
-// bit, since a branch on it would be guessed wrong. The walk stands here and not in a function of its own, to which the array would be copied.
+// current one. The walk goes from one of them to the next by trailing zeros (document 02, §3) and looks at no other record, so it counts no index.
+// The walk stands here and not in a function of its own, to which the array would be copied.
 pub fn compute_ipi_mask(
     current_cpu: u32,
     target_prio: i32,
@@ -56,46 +48,33 @@ pub fn compute_ipi_mask(
     cpus: [CpuRecord; 16],
     num_cpus: u32,
     max_cpus: u32,
-) -> IpiMask
-    ensures { ipi_says result ≡ compute_ipi_mask current_cpu target_prio target_cpu_mask cpus num_cpus max_cpus }
+) -> Result<u32, Refusal>
+    ensures { says 0 result ≡ compute_ipi_mask current_cpu target_prio target_cpu_mask cpus num_cpus max_cpus }
 {
     if !counts_fit(current_cpu, num_cpus, max_cpus) {
-        return IpiMask {
-            code: Code::Einval,
-            mask: 0,
-        };
+        return Err(Refusal::Einval);
     }
     let below = (1u32 << num_cpus) - 1;
     let others = !(1u32 << current_cpu);
     let mut ahead = target_cpu_mask & (below & others);
-    let mut mask: u32 = 0;
+    let mut mask = 0;
     while ahead != 0 {
-        let idx = u32::trailing_zeros(ahead);
-        let at = idx as usize;
-        let cpu = cpus[at];
-        let less = runs_less(target_prio, cpu) as u32;
-        mask = mask | (less << idx);
-        ahead = ahead & (ahead - 1);
+        let idx = ahead.trailing_zeros();
+        let less = runs_less(target_prio, cpus[idx as usize]) as u32;
+        mask |= less << idx;
+        ahead &= ahead - 1;
     }
-    IpiMask {
-        code: Code::Ok,
-        mask,
-    }
+    Ok(mask)
 }
 
 // Whether a mask can be one that was computed for this CPU: it spares the CPU itself and names none from max_cpus on.
-pub fn validate_ipi_mask(mask: u32, current_cpu: u32, max_cpus: u32) -> YesNo
-    ensures { yes_no_says result ≡ validate_ipi_mask mask current_cpu max_cpus }
+#[tactic(auto, unfolding(crate::specs::Ipi::validate_ipi_mask))]
+pub fn validate_ipi_mask(mask: u32, current_cpu: u32, max_cpus: u32) -> Result<bool, Refusal>
+    ensures { says false result ≡ validate_ipi_mask mask current_cpu max_cpus }
 {
-    if !((max_cpus <= MAX_IPI_CPUS) & (current_cpu < max_cpus)) {
-        return YesNo {
-            code: Code::Einval,
-            yes: false,
-        };
+    if max_cpus > MAX_IPI_CPUS || current_cpu >= max_cpus {
+        return Err(Refusal::Einval);
     }
-    let names_current = mask & (1u32 << current_cpu) != 0;
-    YesNo {
-        code: Code::Ok,
-        yes: !names_current & (mask >> max_cpus == 0),
-    }
+    let names_current = mask & (1 << current_cpu) != 0;
+    Ok(!names_current && mask >> max_cpus == 0)
 }

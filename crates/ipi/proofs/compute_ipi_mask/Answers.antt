@@ -1,22 +1,17 @@
 -- Counts that do not fit are refused. The loop sets out with the CPUs that can match, and `Walked` is kept by each turn. The measure is how many
 -- of them are ahead: a turn takes exactly one off (`cleared_ones`) and the loop ends at none, so it has as many turns as there are CPUs that can
 -- match. Assumes nothing.
-use Prim.Native.Nat.{◌+◌, ◌≤◌, ◌<◌}
+use Prim.Native.Nat.{◌≤◌, ◌<◌}
 use native.Mathlib.Omega.{arith}
-use mathlib.Core.Path.{◌≡◌, sym, ap, ◌∙◌}
-use borrow.Author.Rules.{rules}
-use lib.Count.{ones, count_trailing_zeros}
-use lib.Pow.{pow_pos}
+use mathlib.Core.Path.{sym, ap, ◌∙◌}
 use mir.Syntax.{w32}
-use mir.Val.{to_z}
 use mir.ValLaws.{to_z-of_z}
 use Rattle.error.specs.Codes.{OK}
 use Rattle.error.specs.Answer.{answer}
-use Rattle.words.proofs.BitTests.{shl_one}
-use Rattle.words.proofs.Lowest.{cleared, cleared_ones}
+use Rattle.words.proofs.Lowest.{cleared_ones}
 use Rattle.ipi.specs.Ipi.{compute_ipi_mask}
-use Rattle.ipi.proofs.Laws.{InRange, counts_say, ipi_succeeds}
-use Rattle.ipi.proofs.Walk.{matching, sets_out, Walked, walk_begins, walk_ends, here_can, turn}
+use Rattle.ipi.proofs.Laws.{counts_say, ipi_succeeds}
+use Rattle.ipi.proofs.Walk.{sets_out, walk_begins, walk_ends, here_can, turn}
 use Rattle.ipi.proofs.compute_ipi_mask.Goals as goal
 
 pub returns-then-not-counts_fit : goal.returns-then-not-counts_fit
@@ -29,10 +24,11 @@ loop-ahead-init c =
     let r = counts_say _ _ _ (sym c.counts_fit.ensures ∙ c.if-not-counts_fit.false) in
     let few : a.num_cpus < 32 = omega (arith, r.few, r.within) in
     let start = sets_out a.current_cpu a.target_cpu_mask a.num_cpus (omega (arith, r.present)) few in
-    (r, start, rw start (walk_begins a.current_cpu _ a.target_cpu_mask a.cpus a.num_cpus (omega arith)))
+    let within : a.num_cpus ≤ 32 = omega (arith, few) in
+    (r, start, rw start (walk_begins a.current_cpu _ a.target_cpu_mask a.cpus a.num_cpus within))
 
-pub bounds-cpus-at : goal.bounds-cpus-at
-bounds-cpus-at c =
+pub bounds-cpus-idx : goal.bounds-cpus-idx
+bounds-cpus-idx c =
     let i = c.loop-ahead.invariant in
     let some : 0 < c.loop-ahead.ahead = omega arith in
     omega (arith, (here_can some i.2).0, i.0.within, i.0.few)

@@ -1,30 +1,35 @@
--- A refusal and an answer, each by the rule's own test of its numbers. Assumes nothing.
-use borrow.Author.Tests.{leb-true, ltb-true, not-true, not-false}
-use mathlib.Core.Path.{◌≡◌}
-use mathlib.Core.Bool.{true, ◌&&◌}
-use Prim.Native.Nat.{ℕ, ◌≤◌, ◌<◌}
+-- The current CPU's bit decides, and where it is clear, what is left above max. Assumes nothing.
+use borrow.Author.Tests.{le-leb, lt-ltb, eq-eqb, ne_eqb}
+use mathlib.Core.Path.{◌≡◌, ap, sym, ◌∙◌}
+use mathlib.Core.Bool.{not}
+use Prim.Native.Nat.{ℕ, ◌<◌, ◌*◌, ◌%◌, ◌^◌}
 use native.Mathlib.Omega.{arith}
-use lib.Dec.{leb, ltb}
-use Rattle.words.proofs.Choice.{and_left, and_right}
+use lib.Bits.{bit_and}
+use lib.Dec.{eqb}
+use Rattle.words.specs.Bit.{bit}
 use Rattle.words.proofs.BitTests.{shl_one, test_bit, top_test}
-use Rattle.ipi.specs.Ipi.{max_ipi_cpus, validate_ipi_mask}
+use Rattle.ipi.specs.Ipi.{validate_ipi_mask}
 use Rattle.ipi.proofs.validate_ipi_mask.Goals as goal
 
-present : (current max : ℕ) → leb max max_ipi_cpus && ltb current max ≡ true → (max ≤ 16) × (current < max)
-present current max good =
-    (leb-true max max_ipi_cpus (and_left (leb max max_ipi_cpus) _ good), ltb-true current max (and_right (leb max max_ipi_cpus) _ good))
+-- The test that the code makes of the current CPU's bit.
+names : (current mask : ℕ) → current < 32 → not (eqb (bit_and mask ((1 * 2 ^ current) % 2 ^ 32)) 0) ≡ bit current mask
+names current mask fits = rw (shl_one 32 current fits) (test_bit current mask)
 
-pub returns-then-not-max_cpus-current_cpu : goal.returns-then-not-max_cpus-current_cpu
+pub returns-then-not-names_current : goal.returns-then-not-names_current
 unfolding validate_ipi_mask
-returns-then-not-max_cpus-current_cpu c =
+returns-then-not-names_current c =
     let a = c.args in
-    rw (not-true (leb a.max_cpus max_ipi_cpus && ltb a.current_cpu a.max_cpus) c.if-not-max_cpus-current_cpu.true-raw)
+    let few = c.if-max_cpus-gt-MAX_IPI_CPUS.false in
+    let present = c.if-current_cpu-max_cpus.false in
+    let clear = sym (names a.current_cpu a.mask (omega (arith, few, present))) ∙ ap not (eq-eqb _ 0 c.if-not-names_current.true) in
+    simp (le-leb _ _ few, lt-ltb _ _ present, clear, top_test a.max_cpus a.mask)
 
-pub returns : goal.returns
+pub returns-else-not-names_current : goal.returns-else-not-names_current
 unfolding validate_ipi_mask
-returns c =
+returns-else-not-names_current c =
     let a = c.args in
-    let good = c.if-not-max_cpus-current_cpu.false in
-    let p = present a.current_cpu a.max_cpus good in
-    let below : a.current_cpu < 32 = omega (arith, p.0, p.1) in
-    simp (good, shl_one 32 a.current_cpu below, test_bit a.current_cpu a.mask, top_test a.max_cpus a.mask)
+    let few = c.if-max_cpus-gt-MAX_IPI_CPUS.false in
+    let present = c.if-current_cpu-max_cpus.false in
+    let named = ne_eqb _ 0 c.if-not-names_current.false in
+    let set = sym (names a.current_cpu a.mask (omega (arith, few, present))) ∙ ap not named in
+    simp (le-leb _ _ few, lt-ltb _ _ present, set, named)
