@@ -9,7 +9,6 @@
 ghost use Rattle.std.specs.Prelude.{◌≡◌, Some};
 ghost use Rattle.machine.specs.State.{is_priority};
 ghost use Rattle.element_tests.specs.Elements.{
-  eq_z,
   runs as Elements·runs,
   slot_by,
   owner_ok,
@@ -22,16 +21,7 @@ ghost use Rattle.element_tests.specs.Elements.{
   pin_by,
 };
 
-use machine::{
-    CPU_SLOTS, Cpu, CpuId, IDLE_PRIORITY, Lock, Run, Setup, THREADS, Thread, ThreadId,
-};
-
-// Whether two priorities are equal, as `eq_z` says it.
-fn same_priority(a: i32, b: i32) -> bool
-    ensures { result ≡ eq_z a b }
-{
-    a == b
-}
+use machine::{CPU_SLOTS, Cpu, CpuId, IDLE_PRIORITY, Lock, Run, Setup, THREADS, Thread, ThreadId};
 
 // Whether the thread is current on the CPU. One past the end of the array has no thread.
 fn runs(cpus: [Cpu; CPU_SLOTS], c: CpuId, t: ThreadId) -> bool
@@ -91,7 +81,7 @@ fn thread_fits(threads: [Thread; THREADS], c: CpuId, run: Run, t: ThreadId) -> b
     }
     let thread = threads[t.0 as usize];
     run.active
-        && same_priority(run.priority, thread.priority)
+        && run.priority == thread.priority
         && thread.place == Some(c)
         && cpu_mask::allows(thread.mask, c.0)
 }
@@ -121,7 +111,7 @@ pub fn idle_ok(cpu: Cpu) -> bool
     ensures { result ≡ idle_by cpu.run.priority cpu.run.current }
 {
     match cpu.run.current {
-        None => same_priority(cpu.run.priority, IDLE_PRIORITY),
+        None => cpu.run.priority == IDLE_PRIORITY,
         Some(_) => true,
     }
 }
