@@ -3,222 +3,129 @@
 // else.
 //
 // New here; the definitions are in the crate rules, masks go by the crate cpu_mask. A caller can rely on this: a refusal, of numbers that no
-// record may carry too, hands every cell back as it was.
+// record may carry too, leaves every cell as it was.
 
 #![tactic(auto)]
 
 ghost use Rattle.std.specs.Prelude.{◌≡◌, ◌&&◌};
+ghost use Rattle.error.specs.Codes.{number_of};
+ghost use Rattle.error.specs.Answer.{answer};
 ghost use Rattle.order.specs.Outcome.{applied_to};
 ghost use Rattle.machine.specs.State.{has_cpu, is_thread, idle_run};
 ghost use Rattle.rules.specs.Rules.{
-  run_says,
-  seat_says,
-  cpu_says,
+  cells_say,
   ranged,
-  with_run,
-  with_seat,
   on_cpu,
-  occupied,
   up as Rules·up,
   down as Rules·down,
   put as Rules·put,
   take as Rules·take,
 };
 
-use error::Code;
-use machine::{Cpu, CpuId, Current, Place, Run, Setup, Thread, ThreadId};
+use error::Refusal;
+use machine::{Cpu, CpuId, Run, Setup, Thread, ThreadId};
 use record::CpuOperation;
-use rules::{Answered, CpuOut, RunOut, SeatOut};
-
-fn is_occupied(current: Current) -> bool
-    ensures { result ≡ occupied current }
-{
-    match current {
-        Current::None => false,
-        Current::Thread(_) => true,
-    }
-}
 
 fn idle_run(active: bool) -> Run
     ensures { result ≡ idle_run active }
 {
     Run {
         active,
-        current: Current::None,
+        current: None,
         priority: machine::IDLE_PRIORITY,
     }
 }
 
 // 0: the CPU comes up.
-fn up(run: Run) -> RunOut
-    ensures { run_says result ≡ applied_to run (Rules·up run) }
+#[tactic(auto, unfolding(rules::specs::Rules::up))]
+fn up(run: Run) -> Result<Run, Refusal>
+    ensures { cells_say run result ≡ applied_to run (Rules·up run) }
 {
     if run.active {
-        return RunOut {
-            code: Code::Ealready,
-            run,
-        };
+        return Err(Refusal::Ealready);
     }
-    RunOut {
-        code: Code::Ok,
-        run: idle_run(true),
-    }
+    Ok(idle_run(true))
 }
 
 // 1: the CPU goes down.
-fn down(run: Run) -> RunOut
-    ensures { run_says result ≡ applied_to run (Rules·down run) }
+#[tactic(auto, unfolding(rules::specs::Rules::down))]
+fn down(run: Run) -> Result<Run, Refusal>
+    ensures { cells_say run result ≡ applied_to run (Rules·down run) }
 {
     if !run.active {
-        return RunOut {
-            code: Code::Ealready,
-            run,
-        };
+        return Err(Refusal::Ealready);
     }
-    let current = run.current;
-    if is_occupied(current) {
-        return RunOut {
-            code: Code::Ebusy,
-            run,
-        };
+    if run.current.is_some() {
+        return Err(Refusal::Ebusy);
     }
-    RunOut {
-        code: Code::Ok,
-        run: idle_run(false),
-    }
+    Ok(idle_run(false))
 }
 
 // 2: a thread comes onto the CPU.
-fn put(c: CpuId, t: ThreadId, run: Run, thread: Thread) -> SeatOut
-    ensures { seat_says result ≡ applied_to (run, thread) (Rules·put c.0 t.0 run thread) }
+#[tactic(auto, unfolding(rules::specs::Rules::put))]
+fn put(c: CpuId, t: ThreadId, run: Run, thread: Thread) -> Result<(Run, Thread), Refusal>
+    ensures { cells_say (run, thread) result ≡ applied_to (run, thread) (Rules·put c.0 t.0 run thread) }
 {
     if !run.active {
-        return SeatOut {
-            code: Code::Einval,
-            run,
-            thread,
-        };
+        return Err(Refusal::Einval);
     }
-    let current = run.current;
-    let place = thread.place;
-    if is_occupied(current) | rules::is_placed(place) {
-        return SeatOut {
-            code: Code::Ebusy,
-            run,
-            thread,
-        };
+    if run.current.is_some() || thread.place.is_some() {
+        return Err(Refusal::Ebusy);
     }
     if !cpu_mask::allows(thread.mask, c.0) {
-        return SeatOut {
-            code: Code::Einval,
-            run,
-            thread,
-        };
+        return Err(Refusal::Einval);
     }
-    SeatOut {
-        code: Code::Ok,
-        run: Run {
-            active: run.active,
-            current: Current::Thread(t),
-            priority: thread.priority,
-        },
-        thread: Thread {
-            mask: thread.mask,
-            priority: thread.priority,
-            place: Place::On(c),
-        },
-    }
+    let seated = Run {
+        current: Some(t),
+        priority: thread.priority,
+        ..run
+    };
+    let placed = Thread {
+        place: Some(c),
+        ..thread
+    };
+    Ok((seated, placed))
 }
 
 // 3: the thread leaves the CPU.
-fn take(t: ThreadId, hold: u32, run: Run, thread: Thread) -> SeatOut
-    ensures { seat_says result ≡ applied_to (run, thread) (Rules·take t.0 hold run thread) }
+#[tactic(auto, unfolding(rules::specs::Rules::take))]
+fn take(t: ThreadId, hold: u32, run: Run, thread: Thread) -> Result<(Run, Thread), Refusal>
+    ensures { cells_say (run, thread) result ≡ applied_to (run, thread) (Rules·take t.0 hold run thread) }
 {
-    let current = run.current;
-    if !rules::is_current(current, t) {
-        return SeatOut {
-            code: Code::Eperm,
-            run,
-            thread,
-        };
+    if run.current != Some(t) {
+        return Err(Refusal::Eperm);
     }
     if hold != 0 {
-        return SeatOut {
-            code: Code::Ebusy,
-            run,
-            thread,
-        };
+        return Err(Refusal::Ebusy);
     }
-    SeatOut {
-        code: Code::Ok,
-        run: idle_run(true),
-        thread: Thread {
-            mask: thread.mask,
-            priority: thread.priority,
-            place: Place::Nowhere,
-        },
-    }
+    let unplaced = Thread {
+        place: None,
+        ..thread
+    };
+    Ok((idle_run(true), unplaced))
 }
 
-// The CPU with a run cell after an operation, and the thread as it was.
-fn with_run(o: RunOut, cpu: Cpu, thread: Thread) -> CpuOut
-    ensures { cpu_says result ≡ with_run (run_says o) cpu thread }
-{
-    let code = o.code;
-    let run = o.run;
-    CpuOut {
-        answer: Answered { code, value: 0 },
-        cpu: Cpu {
-            run,
-            hold: cpu.hold,
-        },
-        thread,
-    }
-}
-
-// The CPU and the thread after an operation that seats or unseats the thread.
-fn with_seat(o: SeatOut, cpu: Cpu) -> CpuOut
-    ensures { cpu_says result ≡ with_seat (seat_says o) cpu }
-{
-    let code = o.code;
-    let run = o.run;
-    let thread = o.thread;
-    CpuOut {
-        answer: Answered { code, value: 0 },
-        cpu: Cpu {
-            run,
-            hold: cpu.hold,
-        },
-        thread,
-    }
-}
-
-// 0 to 3, on a machine of this setup: the CPU and the thread after the operation.
+// 0 to 3, on a machine of this setup: what becomes of the CPU and the thread.
+#[tactic(auto, unfolding(rules::specs::Rules::on_cpu))]
 pub fn on_cpu(
     setup: Setup,
     operation: CpuOperation,
     c: CpuId,
     t: ThreadId,
-    cpu: Cpu,
-    thread: Thread,
-) -> CpuOut
-    ensures { cpu_says result ≡ ranged (has_cpu setup c.0 && is_thread t.0) (cpu, thread) (on_cpu operation c.0 t.0 cpu thread) }
+    cpu: &mut Cpu,
+    thread: &mut Thread,
+) -> Result<(), Refusal>
+    ensures { (answer (number_of result) 0, (cpu.new, thread.new))
+        ≡ ranged (has_cpu setup c.0 && is_thread t.0) (cpu.old, thread.old) (on_cpu operation c.0 t.0 cpu.old thread.old) }
 {
-    if !(setup.has_cpu(c) & t.exists()) {
-        return CpuOut {
-            answer: Answered {
-                code: Code::Einval,
-                value: 0,
-            },
-            cpu,
-            thread,
-        };
+    if !(setup.has_cpu(c) && t.exists()) {
+        return Err(Refusal::Einval);
     }
-    let run = cpu.run;
     match operation {
-        CpuOperation::Up => with_run(up(run), cpu, thread),
-        CpuOperation::Down => with_run(down(run), cpu, thread),
-        CpuOperation::Put => with_seat(put(c, t, run, thread), cpu),
-        CpuOperation::Take => with_seat(take(t, cpu.hold, run, thread), cpu),
+        CpuOperation::Up => cpu.run = up(cpu.run)?,
+        CpuOperation::Down => cpu.run = down(cpu.run)?,
+        CpuOperation::Put => (cpu.run, *thread) = put(c, t, cpu.run, *thread)?,
+        CpuOperation::Take => (cpu.run, *thread) = take(t, cpu.hold, cpu.run, *thread)?,
     }
+    Ok(())
 }

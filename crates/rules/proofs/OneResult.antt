@@ -1,46 +1,24 @@
--- What is said of this crate's results tells them apart, so each statement of cpu_rules, lock_rules, thread_rules and unwind_rules allows one
+-- What is said of an answer, and of cells, tells them apart, so each statement of cpu_rules, lock_rules, thread_rules and unwind_rules allows one
 -- result. Assumes nothing.
-use mathlib.Core.Path.{refl, ap, ap₂}
+use mathlib.Core.Path.{sym, ap, ap₂}
 use Prim.Native.Nat.{ℕ}
+use Rattle.std.specs.Prelude.{Ok, Err}
 use Rattle.error.specs.Answer.{Answer}
-use Rattle.error.specs.declared.Code.{Code}
-use Rattle.error.proofs.OneResult.{TellsApart, number_apart, coded_apart}
-use Rattle.machine.specs.declared.Run.{Run}
-use Rattle.machine.specs.declared.Cpu.{Cpu}
-use Rattle.machine.specs.declared.Thread.{Thread}
-use Rattle.machine.specs.declared.Lock.{Lock}
-use Rattle.rules.specs.declared.Answered.{Answered}
-use Rattle.rules.specs.Rules.{answered_says, run_says, seat_says, cpu_says, thread_says, lock_says, unwind_says}
+use Rattle.error.specs.declared.Refusal.{Refusal}
+use Rattle.error.proofs.OneResult.{TellsApart, refusal_number_apart, refusal_is_not_ok}
+use Rattle.rules.specs.Rules.{answered_says, cells_say}
 
 pub answered_apart : TellsApart answered_says
-answered_apart = coded_apart (λ c v. record { code = c; value = v }) (λ a. a.code) (λ a. a.value) (λ a. refl)
+answered_apart (Ok v) (Ok w) e = ap Ok (ap (λ (a : Answer ℕ). a.value) e)
+answered_apart (Ok v) (Err denied) e = absurd (refusal_is_not_ok denied.why (ap (λ (a : Answer ℕ). a.code) e))
+answered_apart (Err denied) (Ok w) e = absurd (refusal_is_not_ok denied.why (sym (ap (λ (a : Answer ℕ). a.code) e)))
+answered_apart (Err a) (Err b) e =
+    ap₂ (λ (why : Refusal) (v : ℕ). Err (record { why = why; value = v }))
+    (refusal_number_apart a.why b.why (ap (λ (x : Answer ℕ). x.code) e)) (ap (λ (x : Answer ℕ). x.value) e)
 
-pub run_apart : TellsApart run_says
-run_apart r s e =
-    ap₂ (λ (c : Code) (k : Run). record { code = c; run = k }) (number_apart r.code s.code (ap (λ (x : Answer ℕ × Run). x.0.code) e))
-    (ap (λ (x : Answer ℕ × Run). x.1) e)
-
-pub seat_apart : TellsApart seat_says
-seat_apart r s e =
-    ap₂ (λ (c : Code) (k : Run × Thread). record { code = c; run = k.0; thread = k.1 })
-    (number_apart r.code s.code (ap (λ (x : Answer ℕ × (Run × Thread)). x.0.code) e)) (ap (λ (x : Answer ℕ × (Run × Thread)). x.1) e)
-
-pub cpu_apart : TellsApart cpu_says
-cpu_apart r s e =
-    ap₂ (λ (a : Answered) (x : Answer ℕ × (Cpu × Thread)). record { answer = a; cpu = x.1.0; thread = x.1.1 })
-    (answered_apart r.answer s.answer (ap (λ (x : Answer ℕ × (Cpu × Thread)). x.0) e)) e
-
-pub thread_apart : TellsApart thread_says
-thread_apart r s e =
-    ap₂ (λ (a : Answered) (x : Answer ℕ × Thread). record { answer = a; thread = x.1 })
-    (answered_apart r.answer s.answer (ap (λ (x : Answer ℕ × Thread). x.0) e)) e
-
-pub lock_apart : TellsApart lock_says
-lock_apart r s e =
-    ap₂ (λ (a : Answered) (x : Answer ℕ × (Cpu × Lock)). record { answer = a; cpu = x.1.0; lock = x.1.1 })
-    (answered_apart r.answer s.answer (ap (λ (x : Answer ℕ × (Cpu × Lock)). x.0) e)) e
-
-pub unwind_apart : TellsApart unwind_says
-unwind_apart r s e =
-    ap₂ (λ (a : Answered) (x : Answer ℕ × Cpu). record { answer = a; cpu = x.1 })
-    (answered_apart r.answer s.answer (ap (λ (x : Answer ℕ × Cpu). x.0) e)) e
+module _ {W : Type 0} (before : W) where
+  pub cells_apart : TellsApart (cells_say before)
+  cells_apart (Ok v) (Ok w) e = ap Ok (ap (λ (x : Answer ℕ × W). x.1) e)
+  cells_apart (Ok v) (Err why) e = absurd (refusal_is_not_ok why (ap (λ (x : Answer ℕ × W). x.0.code) e))
+  cells_apart (Err why) (Ok w) e = absurd (refusal_is_not_ok why (sym (ap (λ (x : Answer ℕ × W). x.0.code) e)))
+  cells_apart (Err a) (Err b) e = ap Err (refusal_number_apart a b (ap (λ (x : Answer ℕ × W). x.0.code) e))

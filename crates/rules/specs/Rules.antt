@@ -2,9 +2,10 @@
 -- table, after the form test; a value on a refusal is the one that stands after the unchanged call.
 use Rattle.machine.specs.declared.ThreadId.{ThreadId}
 use Rattle.machine.specs.declared.CpuId.{CpuId}
-use Rattle.std.specs.Prelude.{ℕ, zero, suc, ◌+◌, ◌-◌, ◌%◌, ◌^◌, Bool, true, false, ◌&&◌, ◌||◌, not, cond, List, [], ◌∷◌, ◌++◌, map, eqb, ltb, ℤ, get_or, Option, None, Some}
-use Rattle.error.specs.Codes.{OK, EPERM, EBUSY, EINVAL, EALREADY, number_of, is_ok}
+use Rattle.std.specs.Prelude.{ℕ, zero, suc, ◌+◌, ◌-◌, ◌%◌, ◌^◌, Bool, true, false, ◌&&◌, ◌||◌, not, cond, List, [], ◌∷◌, ◌++◌, map, eqb, ltb, ℤ, get_or, Option, None, Some, Result, Ok, Err}
+use Rattle.error.specs.Codes.{OK, EPERM, EBUSY, EINVAL, EALREADY, refusal_number, is_ok}
 use Rattle.error.specs.Answer.{Answer, answer}
+use Rattle.error.specs.declared.Refusal.{Refusal}
 use Rattle.words.specs.Bit.{bit, bit_not}
 use Rattle.spinlock_validate.specs.Owner.{spin_lock_compute_owner, spin_lock_valid, spin_unlock_valid}
 use Rattle.spinlock.specs.Lock.{operate, acquire_again, held}
@@ -22,41 +23,17 @@ use Rattle.machine.specs.declared.Thread.{Thread}
 use Rattle.machine.specs.declared.Lock.{Lock}
 use Rattle.record.specs.declared.CpuOperation.{CpuOperation}
 use Rattle.record.specs.declared.ThreadOperation.{ThreadOperation}
-use Rattle.rules.specs.declared.Answered.{Answered}
-use Rattle.rules.specs.declared.RunOut.{RunOut}
-use Rattle.rules.specs.declared.SeatOut.{SeatOut}
-use Rattle.rules.specs.declared.CpuOut.{CpuOut}
-use Rattle.rules.specs.declared.ThreadOut.{ThreadOut}
-use Rattle.rules.specs.declared.LockOut.{LockOut}
-use Rattle.rules.specs.declared.UnwindOut.{UnwindOut}
+use Rattle.rules.specs.declared.Refused.{Refused}
 
--- What the results say. An answer: a code and a value.
-abbrev pub answered_says : Answered → Answer ℕ
-answered_says a = answer (number_of a.code) a.value
+-- What an answer says: OK with its value, or the number of the refusal with the value that stands after the unchanged call.
+abbrev pub answered_says : Result ℕ Refused → Answer ℕ
+answered_says (Ok value) = answer OK value
+answered_says (Err refused) = answer (refusal_number refused.why) refused.value
 
--- An answer with value 0, and the run cell after it.
-abbrev pub run_says : RunOut → Answer ℕ × Run
-run_says a = (answer (number_of a.code) 0, a.run)
-
--- With the thread after it.
-abbrev pub seat_says : SeatOut → Answer ℕ × (Run × Thread)
-seat_says a = (answer (number_of a.code) 0, (a.run, a.thread))
-
--- An answer, with the CPU and the thread after it.
-abbrev pub cpu_says : CpuOut → Answer ℕ × (Cpu × Thread)
-cpu_says a = (answered_says a.answer, (a.cpu, a.thread))
-
--- With the thread after it.
-abbrev pub thread_says : ThreadOut → Answer ℕ × Thread
-thread_says a = (answered_says a.answer, a.thread)
-
--- With the CPU and the lock after it.
-abbrev pub lock_says : LockOut → Answer ℕ × (Cpu × Lock)
-lock_says a = (answered_says a.answer, (a.cpu, a.lock))
-
--- With the CPU after it.
-abbrev pub unwind_says : UnwindOut → Answer ℕ × Cpu
-unwind_says a = (answered_says a.answer, a.cpu)
+-- An answer with value 0, and the cells after it: new ones, or on a refusal those before it.
+abbrev pub cells_say : {W : Type 0} → W → Result W Refusal → Answer ℕ × W
+cells_say before (Ok after) = (answer OK 0, after)
+cells_say before (Err why) = (answer (refusal_number why) 0, before)
 
 -- Refused with a code and a value.
 abbrev pub refused : {W : Type 0} → ℤ → ℕ → Outcome (Answer ℕ) W
