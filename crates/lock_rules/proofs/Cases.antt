@@ -1,13 +1,12 @@
--- The ways in which the lock's rule is settled, and by whom, over plain variables. Assumes nothing.
-use Rattle.std.specs.Prelude.{None, Some}
-use mathlib.Core.Path.{◌≡◌, subst}
-use mathlib.Core.Bool.{true, false}
+-- What the lock's rule comes to, done or refused, for a thread on a CPU, over plain variables. Assumes nothing.
+use Rattle.std.specs.Prelude.{Some}
+use mathlib.Core.Path.{◌≡◌, subst, ◌∙◌}
+use mathlib.Core.Bool.{true}
 use Prim.Native.Nat.{ℕ}
-use Rattle.error.specs.Codes.{EINVAL, number_of, is_ok}
+use Rattle.error.specs.Codes.{OK, refusal_number}
 use Rattle.error.specs.Answer.{Answer, answer}
-use Rattle.error.specs.declared.Code.TheVariants.{Ok}
-use Rattle.spinlock.specs.Lock.{changed_says}
-use Rattle.spinlock.specs.declared.Changed.{Changed}
+use Rattle.error.specs.declared.Refusal.{Refusal}
+use Rattle.error.proofs.Answers.{refusal_refuses}
 use Rattle.spinlock.specs.declared.Operation.{Operation}
 use Rattle.spinlock.specs.declared.SpinlockState.{SpinlockState}
 use Rattle.machine.specs.State.{is_thread}
@@ -15,43 +14,31 @@ use Rattle.machine.specs.declared.ThreadId.{ThreadId}
 use Rattle.machine.specs.declared.Setup.{Setup}
 use Rattle.machine.specs.declared.Cpu.{Cpu}
 use Rattle.machine.specs.declared.Lock.{Lock}
-use Rattle.rules.specs.Rules.{lock_says, ruled, word_after, settled, lock_op, moved, with_lock, on_lock}
-use Rattle.rules.specs.declared.LockOut.{LockOut}
+use Rattle.rules.specs.Rules.{ruled, word_after, settled, lock_op, moved, with_lock, on_lock}
 
--- What the contract says of a result.
-abbrev Settles : Setup → Operation → ℕ → ℕ → Cpu → Lock → LockOut → Answer SpinlockState → Type 0
-Settles s op c t cpu lock r rule = lock_says r ≡ with_lock op cpu lock (settled s c t lock rule)
-
-module _ (s : Setup) (op : Operation) (c t : ℕ) (cpu : Cpu) (lock : Lock) (a : Changed) {rule : Answer SpinlockState} (e : changed_says a ≡ rule) where
-  pub settles_refused : is_ok (number_of a.code) ≡ false
-      → Settles s op c t cpu lock (record { answer = record { code = a.code; value = a.state.nest_count }; cpu = cpu; lock = lock }) rule
-  settles_refused refusal =
-      subst (Settles s op c t cpu lock (record { answer = record { code = a.code; value = a.state.nest_count }; cpu = cpu; lock = lock })) e (rw refusal)
-
-  -- The result of what is accepted.
-  abbrev after : ℕ → ℕ → LockOut
-  after word hold =
-      record {
-        answer = record { code = Ok; value = a.state.nest_count };
-        cpu = record { run = cpu.run; hold = hold };
-        lock = record { state = a.state; word = word };
-      }
-
-  pub settles_accepted : {word hold : ℕ} → is_ok (number_of a.code) ≡ true → word ≡ word_after s c t lock a.state → hold ≡ moved op cpu.hold
-      → Settles s op c t cpu lock (after word hold) rule
-  settles_accepted {word} {hold} fine made by = subst (Settles s op c t cpu lock (after word hold)) e (rw (fine, made, by))
-
--- By the CPU's current thread: none, one that there is not, or one that there is.
-module _ (s : Setup) (op : Operation) (c : ℕ) (cpu : Cpu) (lock : Lock) where
-  pub by_nobody : cpu.run.current ≡ None → (answer EINVAL lock.state.nest_count, (cpu, lock)) ≡ on_lock s op c cpu lock
+module _ (s : Setup) (op : Operation) (c : ℕ) (cpu : Cpu) (lock : Lock) {t : ThreadId} (runs : cpu.run.current ≡ Some t)
+    (there : is_thread t.0 ≡ true) where
+  by_thread : {after : Answer ℕ × (Cpu × Lock)} → after ≡ with_lock op cpu lock (settled s c t.0 lock (ruled s op c t.0 lock))
+      → after ≡ on_lock s op c cpu lock
   unfolding on_lock lock_op
-  by_nobody e = rw e
+  by_thread is = is ∙ rw (runs, there)
 
-  module _ {t : ThreadId} (e : cpu.run.current ≡ Some t) where
-    pub by_stranger : is_thread t.0 ≡ false → (answer EINVAL lock.state.nest_count, (cpu, lock)) ≡ on_lock s op c cpu lock
-    unfolding on_lock lock_op
-    by_stranger missing = rw (e, missing)
+  pub settles_refused : (why : Refusal) → answer (refusal_number why) lock.state ≡ ruled s op c t.0 lock
+      → (answer (refusal_number why) lock.state.nest_count, (cpu, lock)) ≡ on_lock s op c cpu lock
+  settles_refused why is =
+      by_thread
+      (subst
+      (λ (rule : Answer SpinlockState). ◌≡◌ {A = Answer ℕ × (Cpu × Lock)} (answer (refusal_number why) lock.state.nest_count, (cpu, lock))
+      (with_lock op cpu lock (settled s c t.0 lock rule)))
+      is (rw (refusal_refuses why)))
 
-    pub by_thread : is_thread t.0 ≡ true → with_lock op cpu lock (settled s c t.0 lock (ruled s op c t.0 lock)) ≡ on_lock s op c cpu lock
-    unfolding on_lock lock_op
-    by_thread there = rw (e, there)
+  pub settles_done : (next : SpinlockState) {word hold : ℕ} → answer OK next ≡ ruled s op c t.0 lock → word ≡ word_after s c t.0 lock next
+      → hold ≡ moved op cpu.hold
+      → (answer OK next.nest_count, (record { run = cpu.run; hold = hold }, record { state = next; word = word })) ≡ on_lock s op c cpu lock
+  settles_done next {word} {hold} is made by =
+      by_thread
+      (subst
+      (λ (rule : Answer SpinlockState). ◌≡◌ {A = Answer ℕ × (Cpu × Lock)}
+      (answer OK next.nest_count, (record { run = cpu.run; hold = hold }, record { state = next; word = word }))
+      (with_lock op cpu lock (settled s c t.0 lock rule)))
+      is (rw (made, by)))

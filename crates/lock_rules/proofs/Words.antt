@@ -1,6 +1,8 @@
 -- The owner word of a thread on a CPU that the machine has: the pair is a good one at the machine's width, so the word is the one that is made, and
 -- who has another is elsewhere. Assumes nothing.
-use mathlib.Core.Path.{◌≡◌, sym}
+use Rattle.std.specs.Prelude.{Option, None, Some}
+use Rattle.std.specs.Option.{is_some}
+use mathlib.Core.Path.{◌≡◌, refl, sym}
 use mathlib.Core.Bool.{true, not}
 use Prim.Native.Nat.{ℕ, ◌^◌, ◌<◌}
 use native.Mathlib.Nat.{lt_of_lt_of_le}
@@ -12,11 +14,17 @@ use Rattle.words.proofs.Choice.{and_left, and_right}
 use Rattle.words.proofs.Tags.{word_taggable, says_taggable}
 use Rattle.spinlock_validate.specs.Owner.{spin_lock_compute_owner, spin_unlock_valid}
 use Rattle.spinlock_validate.proofs.Laws.{makes}
+use Rattle.spinlock.specs.Lock.{held}
 use Rattle.machine.specs.State.{tag_bits, thread_word, setup_ok, has_cpu}
 use Rattle.machine.specs.declared.Setup.{Setup}
 use Rattle.machine.specs.declared.Lock.{Lock}
 use Rattle.machine.proofs.Size.{size_says}
 use Rattle.rules.specs.Rules.{elsewhere}
+
+-- A record is held where it has an owner.
+pub held_is : (owner : Option ℕ) → held owner ≡ is_some owner
+held_is None = refl
+held_is (Some t) = refl
 
 module _ (s : Setup) (c t : ℕ) (has : has_cpu s c ≡ true) where
   fits : c < 2 ^ tag_bits s

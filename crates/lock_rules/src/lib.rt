@@ -2,180 +2,126 @@
 // it names to their new values and an answer. A rule never sees the machine, so it reads and writes nothing else.
 //
 // New here; the definitions are in the crate rules, the lock's rule goes by the crate spinlock, the owner word by the definitions of
-// spinlock_validate. A refusal hands every cell back as it was. Document 02, request 6: a plain acquire of a lock that the asking CPU itself holds
+// spinlock_validate. A refusal leaves every cell as it was. Document 02, request 6: a plain acquire of a lock that the asking CPU itself holds
 // is EDEADLK (rules::is_again).
 
 #![tactic(auto)]
 
 ghost use Rattle.std.specs.Prelude.{◌≡◌, true};
 ghost use Rattle.words.specs.Tag.{word_of};
-ghost use Rattle.error.specs.Codes.{EINVAL};
-ghost use Rattle.error.specs.Answer.{answer};
-ghost use Rattle.spinlock.specs.Lock.{changed_says, held};
+ghost use Rattle.error.specs.Codes.{OK};
+ghost use Rattle.error.specs.Answer.{answer, says};
 ghost use Rattle.machine.specs.State.{has_cpu, thread_word};
 ghost use Rattle.rules.specs.Rules.{
-  lock_says,
   answered_says,
   ranged,
   elsewhere as Rules·elsewhere,
   ruled as Rules·ruled,
-  word_after,
-  settled as lockSettled,
-  with_lock,
+  word_after as Rules·wordAfter,
   on_lock,
   owner as Rules·owner,
 };
 
-use error::Code;
-use machine::{Cpu, CpuId, Current, Lock, Setup, ThreadId};
-use rules::{Answered, LockOut};
-use spinlock::{Changed, Operation, Owner, SpinlockState};
+use error::Refusal;
+use machine::{Cpu, CpuId, Lock, Setup, ThreadId};
+use rules::Refused;
+use spinlock::{Operation, SpinlockState};
 
-fn has_owner(owner: Owner) -> bool
-    ensures { result ≡ held owner }
-{
-    match owner {
-        Owner::None => false,
-        Owner::Thread(_) => true,
+// A thread that asks for a lock, on a CPU that the machine has.
+#[derive(Clone, Copy)]
+struct Asker {
+    setup: Setup,
+    cpu: CpuId,
+    thread: ThreadId,
+    ghost on_a_cpu: { has_cpu setup cpu.0 ≡ true },
+}
+
+impl Asker {
+    // Its owner word. Such a pair makes a word at every width, so none of the owner word's tests is made again.
+    fn word(self) -> u64
+        ensures { result ≡ word_of self.cpu.0 (thread_word self.setup self.thread.0) }
+    {
+        self.setup.thread_word(self.thread) + u64::from(self.cpu.0)
+    }
+
+    // Whether the lock's word is another than its own, so that it is not the owner here.
+    fn elsewhere(self, lock: Lock) -> bool
+        ensures { result ≡ Rules·elsewhere self.setup self.cpu.0 self.thread.0 lock }
+    {
+        lock.word != self.word()
+    }
+
+    // The lock's rule for it.
+    fn ruled(self, operation: Operation, lock: Lock) -> Result<SpinlockState, Refusal>
+        ensures { says lock.state result ≡ Rules·ruled self.setup operation self.cpu.0 self.thread.0 lock }
+    {
+        if rules::is_again(self.setup, operation, self.cpu, lock.word) {
+            return lock.state.acquire_again(self.thread.0);
+        }
+        lock.state
+            .operate(operation, self.thread.0, self.elsewhere(lock))
+    }
+
+    // The word of a lock after an accepted operation that left this record.
+    fn word_after(self, lock: Lock, next: SpinlockState) -> u64
+        ensures { result ≡ Rules·wordAfter self.setup self.cpu.0 self.thread.0 lock next }
+    {
+        if next.owner.is_none() {
+            return 0;
+        }
+        if lock.state.owner.is_some() {
+            return lock.word;
+        }
+        self.word()
     }
 }
 
-// The owner word of a thread on a CPU of the machine. Such a pair makes a word at every width, so none of the owner word's tests is made again.
-fn owner_word(setup: Setup, c: CpuId, t: ThreadId) -> u64
-    ensures { result ≡ word_of c.0 (thread_word setup t.0) }
-{
-    setup.thread_word(t) + c.0 as u64
-}
-
-// Whether the lock's word is another than this thread's on this CPU, so that the thread is not the owner here.
-fn elsewhere(setup: Setup, c: CpuId, t: ThreadId, lock: Lock) -> bool
-    requires { has_cpu setup c.0 ≡ true }
-    ensures { result ≡ Rules·elsewhere setup c.0 t.0 lock }
-{
-    lock.word != owner_word(setup, c, t)
-}
-
-// The lock's rule for a thread on a CPU.
-fn ruled(setup: Setup, operation: Operation, c: CpuId, t: ThreadId, lock: Lock) -> Changed
-    requires { has_cpu setup c.0 ≡ true }
-    ensures { changed_says result ≡ Rules·ruled setup operation c.0 t.0 lock }
-{
-    let state = lock.state;
-    if rules::is_again(setup, operation, c, lock.word) {
-        return state.acquire_again(t.0);
-    }
-    state.operate(operation, t.0, elsewhere(setup, c, t, lock))
-}
-
-// The word of a lock after an accepted operation that left this record.
-fn word_after(setup: Setup, c: CpuId, t: ThreadId, lock: Lock, next: SpinlockState) -> u64
-    requires { has_cpu setup c.0 ≡ true }
-    ensures { result ≡ word_after setup c.0 t.0 lock next }
-{
-    let owner = next.owner;
-    if !has_owner(owner) {
-        return 0;
-    }
-    let state = lock.state;
-    let before = state.owner;
-    if has_owner(before) {
-        return lock.word;
-    }
-    owner_word(setup, c, t)
-}
-
-// The CPU and the lock after the lock's rule: a refusal leaves them.
-fn settled(
+// 4 and 6, on a machine of this setup: what becomes of the CPU and the lock by its current thread's acquire, plain or nested, or release. The value is
+// the lock's depth.
+#[tactic(auto, unfolding(rules::specs::Rules::on_lock, rules::specs::Rules::lock_op))]
+pub fn on_lock(
     setup: Setup,
     operation: Operation,
     c: CpuId,
-    t: ThreadId,
-    cpu: Cpu,
-    lock: Lock,
-) -> LockOut
-    requires { has_cpu setup c.0 ≡ true }
-    ensures { lock_says result ≡ with_lock operation cpu lock (lockSettled setup c.0 t.0 lock (Rules·ruled setup operation c.0 t.0 lock)) }
-{
-    let a = ruled(setup, operation, c, t, lock);
-    let code = a.code;
-    let next = a.state;
-    if !error::is_ok(code) {
-        return LockOut {
-            answer: Answered {
-                code,
-                value: next.nest_count,
-            },
-            cpu,
-            lock,
-        };
-    }
-    let run = cpu.run;
-    LockOut {
-        answer: Answered {
-            code: Code::Ok,
-            value: next.nest_count,
-        },
-        cpu: Cpu {
-            run,
-            hold: rules::moved(operation, cpu.hold),
-        },
-        lock: Lock {
-            state: next,
-            word: word_after(setup, c, t, lock, next),
-        },
-    }
-}
-
-// With no thread on the CPU.
-fn no_thread(cpu: Cpu, lock: Lock) -> LockOut
-    ensures { lock_says result ≡ (answer EINVAL lock.state.nest_count, (cpu, lock)) }
-{
-    let state = lock.state;
-    LockOut {
-        answer: Answered {
-            code: Code::Einval,
-            value: state.nest_count,
-        },
-        cpu,
-        lock,
-    }
-}
-
-// 4 and 6, on a machine of this setup: the CPU and the lock after its current thread's acquire, plain or nested, or release.
-pub fn on_lock(setup: Setup, operation: Operation, c: CpuId, cpu: Cpu, lock: Lock) -> LockOut
-    ensures { lock_says result ≡ ranged (has_cpu setup c.0) (cpu, lock) (on_lock setup operation c.0 cpu lock) }
+    cpu: &mut Cpu,
+    lock: &mut Lock,
+) -> Result<u32, Refused>
+    ensures { (answered_says result, (cpu.new, lock.new))
+        ≡ ranged (has_cpu setup c.0) (cpu.old, lock.old) (on_lock setup operation c.0 cpu.old lock.old) }
 {
     if !setup.has_cpu(c) {
-        return LockOut {
-            answer: Answered {
-                code: Code::Einval,
-                value: 0,
-            },
-            cpu,
-            lock,
-        };
+        return Err(Refused::from(Refusal::Einval));
     }
-    let run = cpu.run;
-    let current = run.current;
-    match current {
-        Current::None => no_thread(cpu, lock),
-        Current::Thread(t) => {
-            if t.exists() {
-                settled(setup, operation, c, t, cpu, lock)
-            } else {
-                no_thread(cpu, lock)
-            }
+    let value = lock.state.nest_count;
+    let thread = match cpu.run.current {
+        Some(t) if t.exists() => t,
+        _ => return Err(Refused {
+            why: Refusal::Einval,
+            value,
+        }),
+    };
+    let asker = Asker {
+        setup,
+        cpu: c,
+        thread,
+    };
+    match asker.ruled(operation, *lock) {
+        Err(why) => Err(Refused { why, value }),
+        Ok(next) => {
+            *lock = Lock {
+                state: next,
+                word: asker.word_after(*lock, next),
+            };
+            cpu.hold = rules::moved(operation, cpu.hold);
+            Ok(next.nest_count)
         }
     }
 }
 
 // 11: the owner word of a lock.
-pub fn owner(lock: Lock) -> Answered
-    ensures { answered_says result ≡ Rules·owner lock }
+#[tactic(auto, unfolding(rules::specs::Rules::owner))]
+pub fn owner(lock: Lock) -> u32
+    ensures { answer OK result ≡ Rules·owner lock }
 {
-    let code = Code::Ok;
-    Answered {
-        code,
-        value: (lock.word % 0x1_0000_0000) as u32,
-    }
+    (lock.word % 0x1_0000_0000) as u32
 }

@@ -5,7 +5,6 @@ use native.Mathlib.Nat.{not-suc-le-zero}
 use native.Mathlib.Omega.{arith}
 use lib.ListN.{length}
 use borrow.Author.Rules.{rules}
-use borrow.Author.Tests.{not-true, not-false}
 use Rattle.words.proofs.Choice.{and_left}
 use Rattle.machine.specs.State.{cpu_slots, setup_ok, has_cpu}
 use Rattle.machine.proofs.Size.{size_says}
