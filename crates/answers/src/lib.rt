@@ -33,16 +33,18 @@ fn greatest(answer: Result<(), Refusal>) -> u64
 }
 
 // An answer over the front of `out`, as one number: from the greatest answer with its code that is taken off by which the value falls short. So the
-// compiler does not tell code and value apart, and stores them at once (docs/PERFORMANCE.md).
+// compiler does not tell code and value apart, and stores them at once (docs/PERFORMANCE.md). The greatest answer is found before the room is tested:
+// after the test the compiler would go its own way for each code.
 #[tactic(auto, unfolding(crate::specs::Answer::put_code, crate::specs::Answer::written, crate::specs::Answer::answer_bytes))]
 pub fn put_answer(out: &mut [u8], answer: Result<(), Refusal>, value: u32) -> Result<(), Refusal>
     ensures code { number_of result ≡ put_code (length out.old) }
     ensures room { out.new ≡ written (answer_bytes (number_of answer) value) out.old }
 {
+    let most = greatest(answer);
     if out.len() < ANSWER_BYTES {
         return Err(Refusal::Enomem);
     }
     let short = (u32::MAX - value) as u64;
-    high_first::put(out, 0, ANSWER_BYTES, greatest(answer) - short);
+    high_first::put(out, 0, ANSWER_BYTES, most - short);
     Ok(())
 }

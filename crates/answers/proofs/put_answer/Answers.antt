@@ -12,5 +12,5 @@ returns-clause-room c =
     let a = c.args in
     let code = number_of a.answer in
     c.put.ensures.room
-    ∙ ap (λ (bs : List ℕ). placed 0 bs a.out.now) (as_one code a.value c.greatest.result c.ranges.value.fits c.greatest.ensures)
+    ∙ ap (λ (bs : List ℕ). placed 0 bs a.out.now) (as_one code a.value c.greatest-most.result c.ranges.value.fits c.greatest-most.ensures)
     ∙ over_the_front code a.value a.out.now c.if-out-lt-ANSWER_BYTES.false
