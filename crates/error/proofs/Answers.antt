@@ -4,7 +4,7 @@ use Prim.Native.Nat.{ℕ}
 use lib.IntN.{negsuc, pos-ne-negsuc}
 use Rattle.std.specs.Prelude.{Result, Ok, Err}
 use Rattle.std.specs.Result.{IsErrAnd}
-use Rattle.error.specs.Codes.{OK, refusal_number, is_ok}
+use Rattle.error.specs.Codes.{OK, number_of, refusal_number, is_ok}
 use Rattle.error.specs.Answer.{Answer, answer, says}
 use Rattle.error.specs.declared.Refusal.{Refusal}
 use Rattle.error.specs.declared.Refusal.TheVariants.{Eperm, Enomem, Ebusy, Einval, Edeadlk, Ealready, Eoverflow}
@@ -36,3 +36,8 @@ refusal_refuses Einval = refl
 refusal_refuses Edeadlk = refl
 refusal_refuses Ealready = refl
 refusal_refuses Eoverflow = refl
+
+-- The same of a code alone.
+pub code_refused : (why : Refusal) (r : Result (Unit {0}) Refusal) → IsErrAnd r (λ given. given ≡ why) → number_of r ≡ refusal_number why
+code_refused why (Ok done) same = elim same [ ]
+code_refused why (Err given) same = ap refusal_number same

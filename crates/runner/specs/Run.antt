@@ -1,22 +1,12 @@
 -- 01, "Log records", "Runner": the records of a log one after the other, each answer in its place.
 use Rattle.std.specs.Prelude.{ℕ, zero, suc, ◌*◌, ◌/◌, cond, List, [], ◌++◌, ℤ, length, take, drop}
-use Rattle.error.specs.Codes.{EINVAL, number_of, is_ok}
+use Rattle.error.specs.Codes.{is_ok}
 use Rattle.error.specs.Answer.{Answer, answer}
 use Rattle.machine.specs.declared.Machine.{Machine}
 use Rattle.answers.specs.Answer.{answer_bytes, written}
 use Rattle.log_tests.specs.RunCode.{run_code}
 use Rattle.wellformed.specs.WellFormed.{well_formed}
 use Rattle.operations.specs.Log.{state_at, answer_at}
-use Rattle.runner.specs.declared.Ran.{Ran}
-
--- A run's code and machine.
-abbrev pub ran_says : Ran → Answer Machine
-ran_says a = answer (number_of a.code) a.machine
-
--- The answer to the last of the first k records; of none, that of a record that fails the form test.
-unfoldable pub last_answer : Machine → List ℕ → ℕ → Answer ℕ
-last_answer m log zero = answer EINVAL 0
-last_answer m log (suc k) = answer_at m log k
 
 -- An answer written into the rest of the buffer from a place on.
 abbrev pub written_at : ℕ → Answer ℕ → List ℕ → List ℕ

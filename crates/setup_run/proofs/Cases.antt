@@ -5,13 +5,13 @@ use mathlib.Core.List.{List}
 use Prim.Native.Nat.{ℕ}
 use lib.IntN.{ℤ}
 use lib.ListN.{length}
-use Rattle.error.specs.Codes.{number_of, is_ok}
-use Rattle.error.proofs.Answers.{same_code, same_value}
-use Rattle.machine.specs.State.{made_says, setup}
+use Rattle.error.specs.Codes.{OK, refusal_number, is_ok}
+use Rattle.error.specs.Answer.{answer}
+use Rattle.error.specs.declared.Refusal.{Refusal}
+use Rattle.error.proofs.Answers.{same_code, same_value, refusal_refuses}
+use Rattle.machine.specs.State.{least_machine, setup}
 use Rattle.machine.specs.declared.Machine.{Machine}
-use Rattle.machine.specs.declared.Made.{Made}
-use Rattle.runner.specs.Run.{ran_says, ran, ran_room}
-use Rattle.runner.specs.declared.Ran.{Ran}
+use Rattle.runner.specs.Run.{ran, ran_room}
 use Rattle.runner.proofs.Refused.{refused_room}
 use Rattle.words.proofs.Choice.{bool_ind}
 use Rattle.setup_run.specs.Run.{code_from_setup, room_from_setup}
@@ -20,17 +20,17 @@ use Rattle.setup_run.specs.Run.{code_from_setup, room_from_setup}
 abbrev pub Runs : ℕ → List ℕ → List ℕ → ℤ → List ℕ → Type 0
 Runs byte log room code after = (code ≡ code_from_setup byte log (length room)) × (after ≡ room_from_setup byte log room)
 
-module _ (byte : ℕ) (log room : List ℕ) (a : Made) (e : made_says a ≡ setup byte) where
-  pub bad_setup : is_ok (number_of a.code) ≡ false → Runs byte log room (number_of a.code) room
+module _ (byte : ℕ) (log room : List ℕ) where
+  pub bad_setup : (why : Refusal) → answer (refusal_number why) least_machine ≡ setup byte → Runs byte log room (refusal_number why) room
   unfolding code_from_setup room_from_setup
-  bad_setup bad = (simp (← same_code e, bad), simp (← same_code e, bad))
+  bad_setup why e = (simp (← same_code e, refusal_refuses why), simp (← same_code e, refusal_refuses why))
 
-  pub good_setup : is_ok (number_of a.code) ≡ true → (r : Ran) (after : List ℕ) → ran_says r ≡ ran a.machine log (length room)
-      → after ≡ ran_room a.machine log room → Runs byte log room (number_of r.code) after
+  pub good_setup : (m : Machine) → answer OK m ≡ setup byte → {code : ℤ} {end : Machine} (after : List ℕ)
+      → answer code end ≡ ran m log (length room) → after ≡ ran_room m log room → Runs byte log room code after
   unfolding code_from_setup room_from_setup
-  good_setup good r after says wrote = (
-    simp (← same_code e, good) (same_code says ∙ ap (λ (m : Machine). (ran m log (length room)).code) (same_value e)),
-    simp (← same_code e, good) (wrote ∙ ap (λ (m : Machine). ran_room m log room) (same_value e)),
+  good_setup m e after says wrote = (
+    simp (← same_code e) (same_code says ∙ ap (λ (x : Machine). (ran x log (length room)).code) (same_value e)),
+    simp (← same_code e) (wrote ∙ ap (λ (x : Machine). ran_room x log room) (same_value e)),
   )
 
 -- A refusal, of the byte or of the log, writes nothing.

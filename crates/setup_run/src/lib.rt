@@ -9,20 +9,13 @@ ghost use Rattle.std.specs.Prelude.{◌≡◌, length};
 ghost use Rattle.error.specs.Codes.{number_of};
 ghost use Rattle.setup_run.specs.Run.{code_from_setup, room_from_setup};
 
-use error::Code;
+use error::Refusal;
 
 // The answers of a log over the front of the room, and the code.
-pub fn run_from_setup(setup: u8, log: &[u8], out: &mut [u8]) -> Code
+pub fn run_from_setup(setup: u8, log: &[u8], out: &mut [u8]) -> Result<(), Refusal>
     ensures code { number_of result ≡ code_from_setup setup log.now (length out.old) }
     ensures room { out.new ≡ room_from_setup setup log.now out.old }
 {
-    let made = machine::from_setup_byte(setup);
-    let refused = made.code;
-    if !error::is_ok(refused) {
-        return refused;
-    }
-    let machine = made.machine;
-    let ran = runner::run(machine, log, out);
-    let code = ran.code;
-    code
+    let mut machine = machine::from_setup_byte(setup)?;
+    runner::run(&mut machine, log, out)
 }

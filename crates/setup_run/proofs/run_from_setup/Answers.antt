@@ -1,34 +1,30 @@
 -- A bad setup byte is refused, and another's machine runs the log (`Cases`). Assumes nothing.
 use borrow.Author.Rules.{rules}
-use borrow.Author.Tests.{not-true, not-false}
-use mathlib.Core.Path.{sym, ◌∙◌}
+use mathlib.Core.Path.{◌∙◌}
+use Rattle.error.proofs.Answers.{code_refused}
 use Rattle.setup_run.proofs.Cases.{bad_setup, good_setup}
 use Rattle.setup_run.proofs.run_from_setup.Goals as goal
 
-pub returns-then-not-is_ok-clause-code : goal.returns-then-not-is_ok-clause-code
-returns-then-not-is_ok-clause-code c =
+pub returns-in_err-machine-clause-code : goal.returns-in_err-machine-clause-code
+returns-in_err-machine-clause-code c =
     let a = c.args in
-    let bad = sym c.is_ok.ensures ∙ c.if-not-is_ok.true in
-    let told = bad_setup a.setup a.log.now a.out.now c.from_setup_byte-made.result c.from_setup_byte-made.ensures bad in told.0
+    let why = c.in_err-machine.field-0.0 in
+    let told = bad_setup a.setup a.log.now a.out.now why c.in_err-machine.ensures in
+    code_refused why c.from_residual.result c.from_residual.ensures.1 ∙ told.0
 
-pub returns-then-not-is_ok-clause-room : goal.returns-then-not-is_ok-clause-room
-returns-then-not-is_ok-clause-room c =
+pub returns-in_err-machine-clause-room : goal.returns-in_err-machine-clause-room
+returns-in_err-machine-clause-room c =
     let a = c.args in
-    let bad = sym c.is_ok.ensures ∙ c.if-not-is_ok.true in
-    let told = bad_setup a.setup a.log.now a.out.now c.from_setup_byte-made.result c.from_setup_byte-made.ensures bad in told.1
+    let told = bad_setup a.setup a.log.now a.out.now c.in_err-machine.field-0.0 c.in_err-machine.ensures in told.1
 
 pub returns-clause-code : goal.returns-clause-code
 returns-clause-code c =
-    let r = c.run-ran in
     let a = c.args in
-    let good = sym c.is_ok.ensures ∙ c.if-not-is_ok.false in
-    let told = good_setup a.setup a.log.now a.out.now c.from_setup_byte-made.result c.from_setup_byte-made.ensures good
-    r.result r.new.out r.ensures.machine r.ensures.room in told.0
+    let told = good_setup a.setup a.log.now a.out.now c.in_ok-machine.machine c.in_ok-machine.ensures
+    c.run.new.out c.run.ensures.machine c.run.ensures.room in told.0
 
 pub returns-clause-room : goal.returns-clause-room
 returns-clause-room c =
-    let r = c.run-ran in
     let a = c.args in
-    let good = sym c.is_ok.ensures ∙ c.if-not-is_ok.false in
-    let told = good_setup a.setup a.log.now a.out.now c.from_setup_byte-made.result c.from_setup_byte-made.ensures good
-    r.result r.new.out r.ensures.machine r.ensures.room in told.1
+    let told = good_setup a.setup a.log.now a.out.now c.in_ok-machine.machine c.in_ok-machine.ensures
+    c.run.new.out c.run.ensures.machine c.run.ensures.room in told.1

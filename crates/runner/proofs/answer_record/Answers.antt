@@ -1,0 +1,135 @@
+-- Each arm's answer and machine are the record's, by the law of its family (Turned.antt): the record's numbers are in range, so that no rule
+-- refuses them. Assumes nothing.
+use mathlib.Core.Path.{refl, ap, ◌∙◌}
+use Rattle.std.specs.Prelude.{Err}
+use borrow.Author.Rules.{rules}
+use Rattle.error.proofs.Answers.{refusal_refuses}
+use Rattle.rules.specs.Rules.{answered_says}
+use Rattle.rules.specs.declared.Refused.{Refused}
+use Rattle.operations.proofs.Lengths.{Lengths}
+use Rattle.runner.proofs.Turned.{refused_says, malformed_ran, cpu_ran, lock_ran, thread_ran, ipi_ran, owner_ran, unwind_ran, unwind_refused_ran}
+use Rattle.runner.proofs.answer_record.Goals as goal
+
+pub returns-in-Malformed-clause-answer : goal.returns-in-Malformed-clause-answer
+returns-in-Malformed-clause-answer c =
+    let r = c.request_of-request in
+    let turn = malformed_ran c.args.m.now refl c.requires c.args.bytes.now r.result r.ensures.request c.in-Malformed.is in
+    ap (λ (x : Refused). answered_says (Err x)) c.from.ensures ∙ turn.says
+
+pub returns-in-Malformed-clause-machine : goal.returns-in-Malformed-clause-machine
+returns-in-Malformed-clause-machine c =
+    let r = c.request_of-request in
+    let turn = malformed_ran c.args.m.now refl c.requires c.args.bytes.now r.result r.ensures.request c.in-Malformed.is in
+    turn.leaves
+
+pub returns-in_err-on_cpu-in-OnCpu-clause-answer : goal.returns-in_err-on_cpu-in-OnCpu-clause-answer
+returns-in_err-on_cpu-in-OnCpu-clause-answer c =
+    let r = c.request_of-request in
+    let turn = cpu_ran c.args.m.now refl c.requires c.args.bytes.now r.result r.ensures.request c.in-OnCpu.is _ c.in_err-on_cpu-in-OnCpu.ensures in
+    refused_says _ c.from_residual.result c.from_residual.ensures.1 ∙ turn.says
+
+pub returns-in_err-on_cpu-in-OnCpu-clause-machine : goal.returns-in_err-on_cpu-in-OnCpu-clause-machine
+returns-in_err-on_cpu-in-OnCpu-clause-machine c =
+    let r = c.request_of-request in
+    let turn = cpu_ran c.args.m.now refl c.requires c.args.bytes.now r.result r.ensures.request c.in-OnCpu.is _ c.in_err-on_cpu-in-OnCpu.ensures in
+    turn.leaves
+
+pub returns-in_ok-on_cpu-in-OnCpu-clause-answer : goal.returns-in_ok-on_cpu-in-OnCpu-clause-answer
+returns-in_ok-on_cpu-in-OnCpu-clause-answer c =
+    let r = c.request_of-request in
+    let turn = cpu_ran c.args.m.now refl c.requires c.args.bytes.now r.result r.ensures.request c.in-OnCpu.is _ c.in_ok-on_cpu-in-OnCpu.ensures in
+    turn.says
+
+pub returns-in_ok-on_cpu-in-OnCpu-clause-machine : goal.returns-in_ok-on_cpu-in-OnCpu-clause-machine
+returns-in_ok-on_cpu-in-OnCpu-clause-machine c =
+    let r = c.request_of-request in
+    let turn = cpu_ran c.args.m.now refl c.requires c.args.bytes.now r.result r.ensures.request c.in-OnCpu.is _ c.in_ok-on_cpu-in-OnCpu.ensures in
+    turn.leaves
+
+pub returns-in-OnLock-clause-answer : goal.returns-in-OnLock-clause-answer
+returns-in-OnLock-clause-answer c =
+    let r = c.request_of-request in
+    let turn = lock_ran c.args.m.now refl c.requires c.args.bytes.now r.result r.ensures.request c.in-OnLock.is _ c.on_lock.ensures in
+    turn.says
+
+pub returns-in-OnLock-clause-machine : goal.returns-in-OnLock-clause-machine
+returns-in-OnLock-clause-machine c =
+    let r = c.request_of-request in
+    let turn = lock_ran c.args.m.now refl c.requires c.args.bytes.now r.result r.ensures.request c.in-OnLock.is _ c.on_lock.ensures in
+    turn.leaves
+
+pub returns-in-OnThread-clause-answer : goal.returns-in-OnThread-clause-answer
+returns-in-OnThread-clause-answer c =
+    let r = c.request_of-request in
+    let turn = thread_ran c.args.m.now refl c.requires c.args.bytes.now r.result r.ensures.request c.in-OnThread.is _ c.on_thread.ensures in
+    turn.says
+
+pub returns-in-OnThread-clause-machine : goal.returns-in-OnThread-clause-machine
+returns-in-OnThread-clause-machine c =
+    let r = c.request_of-request in
+    let turn = thread_ran c.args.m.now refl c.requires c.args.bytes.now r.result r.ensures.request c.in-OnThread.is _ c.on_thread.ensures in
+    turn.leaves
+
+pub returns-in_err-mask-in-Ipi-clause-answer : goal.returns-in_err-mask-in-Ipi-clause-answer
+returns-in_err-mask-in-Ipi-clause-answer c =
+    let r = c.request_of-request in
+    let turn = ipi_ran c.args.m.now refl c.requires c.args.bytes.now r.result r.ensures.request c.in-Ipi.is _ c.in_err-mask-in-Ipi.ensures in
+    refused_says _ c.from_residual-in_err-mask-in-Ipi.result c.from_residual-in_err-mask-in-Ipi.ensures.1 ∙ turn.says
+
+pub returns-in_err-mask-in-Ipi-clause-machine : goal.returns-in_err-mask-in-Ipi-clause-machine
+returns-in_err-mask-in-Ipi-clause-machine c =
+    let r = c.request_of-request in
+    let turn = ipi_ran c.args.m.now refl c.requires c.args.bytes.now r.result r.ensures.request c.in-Ipi.is _ c.in_err-mask-in-Ipi.ensures in
+    turn.leaves
+
+pub returns-in_ok-mask-in-Ipi-clause-answer : goal.returns-in_ok-mask-in-Ipi-clause-answer
+returns-in_ok-mask-in-Ipi-clause-answer c =
+    let r = c.request_of-request in
+    let turn = ipi_ran c.args.m.now refl c.requires c.args.bytes.now r.result r.ensures.request c.in-Ipi.is _ c.in_ok-mask-in-Ipi.ensures in
+    turn.says
+
+pub returns-in_ok-mask-in-Ipi-clause-machine : goal.returns-in_ok-mask-in-Ipi-clause-machine
+returns-in_ok-mask-in-Ipi-clause-machine c =
+    let r = c.request_of-request in
+    let turn = ipi_ran c.args.m.now refl c.requires c.args.bytes.now r.result r.ensures.request c.in-Ipi.is _ c.in_ok-mask-in-Ipi.ensures in
+    turn.leaves
+
+pub returns-in-Owner-clause-answer : goal.returns-in-Owner-clause-answer
+returns-in-Owner-clause-answer c =
+    let r = c.request_of-request in
+    let turn = owner_ran c.args.m.now refl c.requires c.args.bytes.now r.result r.ensures.request c.in-Owner.is _ c.owner.ensures in
+    turn.says
+
+pub returns-in-Owner-clause-machine : goal.returns-in-Owner-clause-machine
+returns-in-Owner-clause-machine c =
+    let r = c.request_of-request in
+    let turn = owner_ran c.args.m.now refl c.requires c.args.bytes.now r.result r.ensures.request c.in-Owner.is _ c.owner.ensures in
+    turn.leaves
+
+pub returns-in_err-held-in-Unwind-clause-answer : goal.returns-in_err-held-in-Unwind-clause-answer
+returns-in_err-held-in-Unwind-clause-answer c =
+    let r = c.request_of-request in
+    let made : Lengths c.args.m.now = record { cpus = search rules; threads = search rules; locks = search rules } in
+    let turn = unwind_refused_ran c.args.m.now refl c.requires c.args.bytes.now r.result r.ensures.request c.in-Unwind.is made _ c.in_err-held-in-Unwind.ensures (refusal_refuses _) in
+    refused_says _ c.from_residual-in_err-held-in-Unwind.result c.from_residual-in_err-held-in-Unwind.ensures.1 ∙ turn.says
+
+pub returns-in_err-held-in-Unwind-clause-machine : goal.returns-in_err-held-in-Unwind-clause-machine
+returns-in_err-held-in-Unwind-clause-machine c =
+    let r = c.request_of-request in
+    let made : Lengths c.args.m.now = record { cpus = search rules; threads = search rules; locks = search rules } in
+    let turn = unwind_refused_ran c.args.m.now refl c.requires c.args.bytes.now r.result r.ensures.request c.in-Unwind.is made _ c.in_err-held-in-Unwind.ensures (refusal_refuses _) in
+    turn.leaves
+
+pub returns-in_ok-held-in-Unwind-clause-answer : goal.returns-in_ok-held-in-Unwind-clause-answer
+returns-in_ok-held-in-Unwind-clause-answer c =
+    let r = c.request_of-request in
+    let made : Lengths c.args.m.now = record { cpus = search rules; threads = search rules; locks = search rules } in
+    let turn = unwind_ran c.args.m.now refl c.requires c.args.bytes.now r.result r.ensures.request c.in-Unwind.is made _ c.in_ok-held-in-Unwind.ensures refl _ c.give_back.ensures in
+    turn.says
+
+pub returns-in_ok-held-in-Unwind-clause-machine : goal.returns-in_ok-held-in-Unwind-clause-machine
+returns-in_ok-held-in-Unwind-clause-machine c =
+    let r = c.request_of-request in
+    let made : Lengths c.args.m.now = record { cpus = search rules; threads = search rules; locks = search rules } in
+    let turn = unwind_ran c.args.m.now refl c.requires c.args.bytes.now r.result r.ensures.request c.in-Unwind.is made _ c.in_ok-held-in-Unwind.ensures refl _ c.give_back.ensures in
+    turn.leaves
