@@ -1,5 +1,4 @@
 -- A bad setup byte is refused, and another's machine runs the log (`Cases`). Assumes nothing.
-use borrow.Author.Rules.{rules}
 use mathlib.Core.Path.{◌∙◌}
 use Rattle.error.proofs.Answers.{code_refused}
 use Rattle.setup_run.proofs.Cases.{bad_setup, good_setup}
