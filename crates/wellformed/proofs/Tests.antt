@@ -1,11 +1,18 @@
 -- Tests and sums over an index, as the code goes through them: one turn of a loop after the other. Assumes nothing.
 use mathlib.Core.Path.{◌≡◌, refl, sym, ap, ap₂, ◌∙◌}
-use mathlib.Core.Bool.{Bool, true, false, ◌&&◌, and_assoc}
+use mathlib.Core.Bool.{Bool, true, false, ◌&&◌, and_assoc, false≢true}
 use Prim.Native.Nat.{ℕ, zero, suc, ◌+◌, ◌<◌}
 use native.Mathlib.Nat.{le_refl}
 use native.Mathlib.Numerals.{add-one}
 use native.Mathlib.Omega.{arith}
+use mathlib.Core.List.{List}
+use lib.ListN.{length, get_or}
+use Rattle.std.specs.Bool.{MatchBool}
+use Rattle.std.specs.List.{enumerate_from, AllWithin, HoldsAt}
+use Rattle.std.proofs.lemmas.List.FromFn.{length-enumerate_from, get_or-enumerate_from}
 use Rattle.words.specs.Below.{all_below}
+use Rattle.words.proofs.Below.{all_at, all_from}
+use Rattle.words.proofs.Choice.{bool_ind}
 use Rattle.wellformed.specs.WellFormed.{sum_below}
 
 all_more : (p : ℕ → Bool) (k : ℕ) → all_below p (k + 1) ≡ (all_below p k && p k)
@@ -76,3 +83,32 @@ in_order true true true false true true true rest = refl
 in_order true true false idles false holds places rest = refl
 in_order true true false idles true false places rest = refl
 in_order true true false idles true true places rest = refl
+
+-- What `all` says of its tests, each at its index, is the test of every index.
+pub all_tested :
+    (p : ℕ → Bool) (k : ℕ) (r : Bool) → MatchBool r ((i : ℕ) → i < k → p i ≡ true) ((i : ℕ) × (i < k) × (p i ≡ false)) → r ≡ all_below p k
+all_tested p k true each = sym (all_from p k each)
+all_tested p k false (i, h, fails) = bool_ind (λ b. false ≡ b) (all_below p k) (λ all. absurd (false≢true (sym fails ∙ all_at p k all i h))) (λ _. refl)
+
+-- The same of a test of the elements of a list with their indices.
+pub all_numbered :
+    {A : Type 0} (f : ℕ → A → Bool) (d : A) (xs : List A) (k : ℕ) (r : Bool)
+    → length xs ≡ k
+    → MatchBool r
+      (AllWithin (λ (p : ℕ × A). f p.0 p.1 ≡ true) (enumerate_from 0 xs) 0 (length (enumerate_from 0 xs)))
+      ((i : ℕ) × (i < length (enumerate_from 0 xs)) × HoldsAt (λ (p : ℕ × A). f p.0 p.1 ≡ false) (enumerate_from 0 xs) i)
+    → r ≡ all_below (λ i. f i (get_or xs i d)) k
+all_numbered {A = A} f d xs k r long tested = all_tested _ k r (go r tested)
+  where
+    at : (b : Bool) (i : ℕ) → i < length xs → f (get_or (enumerate_from 0 xs) i (0, d)).0 (get_or (enumerate_from 0 xs) i (0, d)).1 ≡ b
+        → f i (get_or xs i d) ≡ b
+    at b i h e = let here : i ≡ 0 + i = omega arith in
+        ap (λ j. f j (get_or xs i d)) here ∙ ap (λ (p : ℕ × A). f p.0 p.1) (sym (get_or-enumerate_from 0 xs i (0, d) h)) ∙ e
+
+    go : (t : Bool)
+        → MatchBool t
+          (AllWithin (λ (p : ℕ × A). f p.0 p.1 ≡ true) (enumerate_from 0 xs) 0 (length (enumerate_from 0 xs)))
+          ((i : ℕ) × (i < length (enumerate_from 0 xs)) × HoldsAt (λ (p : ℕ × A). f p.0 p.1 ≡ false) (enumerate_from 0 xs) i)
+        → MatchBool t ((i : ℕ) → i < k → f i (get_or xs i d) ≡ true) ((i : ℕ) × (i < k) × (f i (get_or xs i d) ≡ false))
+    go true each = λ i h. at true i (omega (arith, long)) (each i (0, d) (omega arith) (omega (arith, long, length-enumerate_from 0 xs)))
+    go false (i, h, fails) = (i, omega (arith, h, long, length-enumerate_from 0 xs), at false i (omega (arith, h, length-enumerate_from 0 xs)) (fails (0, d)))
