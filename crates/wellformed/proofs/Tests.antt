@@ -30,12 +30,7 @@ turn_one f k below x = all_more f k ∙ ap₂ (λ (p q : Bool). p && q) below (s
 pub turn_sum : (f : ℕ → ℕ) (k : ℕ) {sum a : ℕ} → sum ≡ sum_below f k → a ≡ f k → sum + a ≡ sum_below f (k + 1)
 turn_sum f k below x = ap₂ (λ (p q : ℕ). p + q) below x ∙ sym (sum_more f k)
 
--- One turn of a loop that asks three tests, one after the other, and of one that asks four.
-pub turn :
-    (f : ℕ → Bool) (k : ℕ) {ok a b c p q r : Bool}
-    → all_below f k ≡ ok → a ≡ p → b ≡ q → c ≡ r → (p && (q && r)) ≡ f k → all_below f (k + 1) ≡ (((ok && a) && b) && c)
-turn f k below x y z tests = simp and_assoc (cc (all_more f k))
-
+-- One turn of a loop that asks four tests, one after the other.
 pub turn_four :
     (f : ℕ → Bool) (k : ℕ) {ok a b c d p q r s : Bool}
     → all_below f k ≡ ok → a ≡ p → b ≡ q → c ≡ r → d ≡ s → (p && (q && (r && s))) ≡ f k
@@ -95,8 +90,8 @@ pub all_numbered :
     {A : Type 0} (f : ℕ → A → Bool) (d : A) (xs : List A) (k : ℕ) (r : Bool)
     → length xs ≡ k
     → MatchBool r
-      (AllWithin (λ (p : ℕ × A). f p.0 p.1 ≡ true) (enumerate_from 0 xs) 0 (length (enumerate_from 0 xs)))
-      ((i : ℕ) × (i < length (enumerate_from 0 xs)) × HoldsAt (λ (p : ℕ × A). f p.0 p.1 ≡ false) (enumerate_from 0 xs) i)
+    (AllWithin (λ (p : ℕ × A). f p.0 p.1 ≡ true) (enumerate_from 0 xs) 0 (length (enumerate_from 0 xs)))
+    ((i : ℕ) × (i < length (enumerate_from 0 xs)) × HoldsAt (λ (p : ℕ × A). f p.0 p.1 ≡ false) (enumerate_from 0 xs) i)
     → r ≡ all_below (λ i. f i (get_or xs i d)) k
 all_numbered {A = A} f d xs k r long tested = all_tested _ k r (go r tested)
   where
@@ -107,8 +102,8 @@ all_numbered {A = A} f d xs k r long tested = all_tested _ k r (go r tested)
 
     go : (t : Bool)
         → MatchBool t
-          (AllWithin (λ (p : ℕ × A). f p.0 p.1 ≡ true) (enumerate_from 0 xs) 0 (length (enumerate_from 0 xs)))
-          ((i : ℕ) × (i < length (enumerate_from 0 xs)) × HoldsAt (λ (p : ℕ × A). f p.0 p.1 ≡ false) (enumerate_from 0 xs) i)
+        (AllWithin (λ (p : ℕ × A). f p.0 p.1 ≡ true) (enumerate_from 0 xs) 0 (length (enumerate_from 0 xs)))
+        ((i : ℕ) × (i < length (enumerate_from 0 xs)) × HoldsAt (λ (p : ℕ × A). f p.0 p.1 ≡ false) (enumerate_from 0 xs) i)
         → MatchBool t ((i : ℕ) → i < k → f i (get_or xs i d) ≡ true) ((i : ℕ) × (i < k) × (f i (get_or xs i d) ≡ false))
     go true each = λ i h. at true i (omega (arith, long)) (each i (0, d) (omega arith) (omega (arith, long, length-enumerate_from 0 xs)))
     go false (i, h, fails) = (i, omega (arith, h, long, length-enumerate_from 0 xs), at false i (omega (arith, h, length-enumerate_from 0 xs)) (fails (0, d)))

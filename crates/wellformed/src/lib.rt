@@ -2,8 +2,8 @@
 //
 // New here: upstream has the single rules and no machine. 01, "The machine", "Well-formed": nine clauses; 02, request 5: a tenth. What a clause
 // asks of one CPU, lock or thread is a function of the crate element_tests; here are the loops. They are fewer than the clauses: one for what
-// is asked of each CPU, one for what is asked of each thread, and one for the locks, which adds up the depths on its way. Only that one is
-// handed the machine, which is 4 KB. proofs/Facts.antt says the clauses as facts, and that the test is true exactly where they hold.
+// is asked of each CPU, one for what is asked of each thread, and one for the locks, which adds up the depths on its way. Each is
+// lent the machine, which is 4 KB. proofs/Facts.antt says the clauses as facts, and that the test is true exactly where they hold.
 
 #![tactic(auto)]
 
@@ -15,13 +15,15 @@ ghost use Rattle.wellformed.specs.WellFormed.{lock_ok, hold_ok, cpu_ok, thread_o
 use element_tests::{
     current_ok, depth_for, idle_ok, lock_ok, mask_ok, pin_ok, place_ok, priority_ok, slot_ok,
 };
-use machine::{CPU_SLOTS, Cpu, CpuId, LOCKS, Machine, Setup, THREADS, Thread, ThreadId};
+use machine::{CPU_SLOTS, Cpu, CpuId, Machine, ThreadId};
 
 // The hold of every CPU is its sum.
 fn holds_are(cpus: [Cpu; CPU_SLOTS], sums: [u64; CPU_SLOTS]) -> bool
     ensures { result ≡ all_below (λ c. eqb (get_or cpus c no_cpu).hold (get_or sums c 0)) cpu_slots }
 {
-    cpus.iter().zip(&sums).all(|(cpu, sum)| u64::from(cpu.hold) == *sum)
+    cpus.iter()
+        .zip(&sums)
+        .all(|(cpu, sum)| u64::from(cpu.hold) == *sum)
 }
 
 // What is asked of every lock, and the hold of every CPU: each lock adds its depth to the sum of the CPU that its word names.
@@ -64,6 +66,7 @@ fn threads_ok(m: &Machine) -> bool
 }
 
 // Whether a machine is well-formed.
+#[tactic(auto, using(crate::proofs::Loops::loops_say))]
 pub fn well_formed(m: Machine) -> bool
     ensures { result ≡ well_formed m }
 {

@@ -1,4 +1,4 @@
-use Rattle.std.proofs.Common.{rules, tests}
+use Rattle.std.proofs.Common.{rules}
 use Rattle.wellformed.proofs.Tests.{all_tested}
 use Rattle.wellformed.proofs.holds_are.Goals as goal
 
