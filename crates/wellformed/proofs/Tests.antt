@@ -85,25 +85,26 @@ pub all_tested :
 all_tested p k true each = sym (all_from p k each)
 all_tested p k false (i, h, fails) = bool_ind (λ b. false ≡ b) (all_below p k) (λ all. absurd (false≢true (sym fails ∙ all_at p k all i h))) (λ _. refl)
 
--- The same of a test of the elements of a list with their indices.
-pub all_numbered :
-    {A : Type 0} (f : ℕ → A → Bool) (d : A) (xs : List A) (k : ℕ) (r : Bool)
-    → length xs ≡ k
-    → MatchBool r
+-- What `all` says of a test of the elements of a list with their indices.
+abbrev pub Numbered : {A : Type 0} → (ℕ → A → Bool) → List A → Bool → Type 0
+Numbered {A} f xs r =
+    MatchBool r
     (AllWithin (λ (p : ℕ × A). f p.0 p.1 ≡ true) (enumerate_from 0 xs) 0 (length (enumerate_from 0 xs)))
     ((i : ℕ) × (i < length (enumerate_from 0 xs)) × HoldsAt (λ (p : ℕ × A). f p.0 p.1 ≡ false) (enumerate_from 0 xs) i)
-    → r ≡ all_below (λ i. f i (get_or xs i d)) k
+
+pub all_numbered :
+    {A : Type 0} (f : ℕ → A → Bool) (d : A) (xs : List A) (k : ℕ) (r : Bool)
+    → length xs ≡ k → Numbered f xs r → r ≡ all_below (λ i. f i (get_or xs i d)) k
 all_numbered {A = A} f d xs k r long tested = all_tested _ k r (go r tested)
   where
-    at : (b : Bool) (i : ℕ) → i < length xs → f (get_or (enumerate_from 0 xs) i (0, d)).0 (get_or (enumerate_from 0 xs) i (0, d)).1 ≡ b
-        → f i (get_or xs i d) ≡ b
-    at b i h e = let here : i ≡ 0 + i = omega arith in
-        ap (λ j. f j (get_or xs i d)) here ∙ ap (λ (p : ℕ × A). f p.0 p.1) (sym (get_or-enumerate_from 0 xs i (0, d) h)) ∙ e
+    at : (b : Bool) (i : ℕ) → i < length xs → HoldsAt (λ (p : ℕ × A). f p.0 p.1 ≡ b) (enumerate_from 0 xs) i → f i (get_or xs i d) ≡ b
+    at b i h holds =
+        let here : i ≡ 0 + i = omega arith in
+        let found = get_or-enumerate_from 0 xs i (0, d) h in
+        ap (λ j. f j (get_or xs i d)) here ∙ ap (λ (p : ℕ × A). f p.0 p.1) (sym found) ∙ holds (0, d)
 
-    go : (t : Bool)
-        → MatchBool t
-        (AllWithin (λ (p : ℕ × A). f p.0 p.1 ≡ true) (enumerate_from 0 xs) 0 (length (enumerate_from 0 xs)))
-        ((i : ℕ) × (i < length (enumerate_from 0 xs)) × HoldsAt (λ (p : ℕ × A). f p.0 p.1 ≡ false) (enumerate_from 0 xs) i)
-        → MatchBool t ((i : ℕ) → i < k → f i (get_or xs i d) ≡ true) ((i : ℕ) × (i < k) × (f i (get_or xs i d) ≡ false))
-    go true each = λ i h. at true i (omega (arith, long)) (each i (0, d) (omega arith) (omega (arith, long, length-enumerate_from 0 xs)))
-    go false (i, h, fails) = (i, omega (arith, h, long, length-enumerate_from 0 xs), at false i (omega (arith, h, length-enumerate_from 0 xs)) (fails (0, d)))
+    go : (t : Bool) → Numbered f xs t → MatchBool t ((i : ℕ) → i < k → f i (get_or xs i d) ≡ true) ((i : ℕ) × (i < k) × (f i (get_or xs i d) ≡ false))
+    go true each = λ i h. at true i (omega (arith, long)) (λ e. each i e (omega arith) (omega (arith, long, length-enumerate_from 0 xs)))
+    go false (i, h, fails) =
+        let below : i < length xs = omega (arith, h, length-enumerate_from 0 xs) in
+        (i, omega (arith, below, long), at false i below fails)
