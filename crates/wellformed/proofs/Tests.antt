@@ -1,4 +1,4 @@
--- Tests and sums over an index, as the code goes through them: one turn of a loop after the other. Assumes nothing.
+-- Tests and sums over an index, as the code goes through them: one turn of a loop after the other, or one call of `all`. Assumes nothing.
 use mathlib.Core.Path.{◌≡◌, refl, sym, ap, ap₂, ◌∙◌}
 use mathlib.Core.Bool.{Bool, true, false, ◌&&◌, and_assoc, false≢true}
 use Prim.Native.Nat.{ℕ, zero, suc, ◌+◌, ◌<◌}
@@ -79,11 +79,13 @@ in_order true true false idles false holds places rest = refl
 in_order true true false idles true false places rest = refl
 in_order true true false idles true true places rest = refl
 
--- What `all` says of its tests, each at its index, is the test of every index.
+-- An answer that is true where the test holds at each index, and false where it fails at some, is the test of all.
 pub all_tested :
-    (p : ℕ → Bool) (k : ℕ) (r : Bool) → MatchBool r ((i : ℕ) → i < k → p i ≡ true) ((i : ℕ) × (i < k) × (p i ≡ false)) → r ≡ all_below p k
+    (p : ℕ → Bool) (k : ℕ) (r : Bool)
+    → MatchBool r ((i : ℕ) → i < k → p i ≡ true) ((i : ℕ) × (i < k) × (p i ≡ false)) → r ≡ all_below p k
 all_tested p k true each = sym (all_from p k each)
-all_tested p k false (i, h, fails) = bool_ind (λ b. false ≡ b) (all_below p k) (λ all. absurd (false≢true (sym fails ∙ all_at p k all i h))) (λ _. refl)
+all_tested p k false (i, h, fails) =
+    bool_ind (λ b. false ≡ b) (all_below p k) (λ all. absurd (false≢true (sym fails ∙ all_at p k all i h))) (λ _. refl)
 
 -- What `all` says of a test of the elements of a list with their indices.
 abbrev pub Numbered : {A : Type 0} → (ℕ → A → Bool) → List A → Bool → Type 0
@@ -103,7 +105,8 @@ all_numbered {A = A} f d xs k r long tested = all_tested _ k r (go r tested)
         let found = get_or-enumerate_from 0 xs i (0, d) h in
         ap (λ j. f j (get_or xs i d)) here ∙ ap (λ (p : ℕ × A). f p.0 p.1) (sym found) ∙ holds (0, d)
 
-    go : (t : Bool) → Numbered f xs t → MatchBool t ((i : ℕ) → i < k → f i (get_or xs i d) ≡ true) ((i : ℕ) × (i < k) × (f i (get_or xs i d) ≡ false))
+    go : (t : Bool) → Numbered f xs t
+        → MatchBool t ((i : ℕ) → i < k → f i (get_or xs i d) ≡ true) ((i : ℕ) × (i < k) × (f i (get_or xs i d) ≡ false))
     go true each = λ i h. at true i (omega (arith, long)) (λ e. each i e (omega arith) (omega (arith, long, length-enumerate_from 0 xs)))
     go false (i, h, fails) =
         let below : i < length xs = omega (arith, h, length-enumerate_from 0 xs) in

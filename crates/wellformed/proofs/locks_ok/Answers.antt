@@ -16,7 +16,8 @@ loop-k-init c = (search rules, none_yet _)
 pub returns-then-not-lock_ok : goal.returns-then-not-lock_ok
 returns-then-not-lock_ok c =
     let m = c.args.m.now in
-    ap (λ b. b && all_below (hold_ok m) cpu_slots) (all_tested (lock_ok m) lock_count false (c.loop-k.k-index, omega arith, sym c.if-not-lock_ok.ensures))
+    let locks = all_tested (lock_ok m) lock_count false (c.loop-k.k-index, omega arith, sym c.if-not-lock_ok.ensures) in
+    ap (λ b. b && all_below (hold_ok m) cpu_slots) locks
 
 pub loop-k-preserved : goal.loop-k-preserved
 loop-k-preserved c =
@@ -36,4 +37,5 @@ returns c =
     let m = c.args.m.now in
     let all : loop.k-index ≡ lock_count = omega arith in
     let holds = all_same _ (hold_ok m) cpu_slots (λ i h. ap (eqb (cpu_at m i).hold) (loop.invariant.1.each i h ∙ ap (sum_below _) all)) in
-    c.holds_are.ensures ∙ holds ∙ ap (λ b. b && all_below (hold_ok m) cpu_slots) (sym loop.invariant.0 ∙ ap (all_below (lock_ok m)) all)
+    let locks = sym loop.invariant.0 ∙ ap (all_below (lock_ok m)) all in
+    c.holds_are.ensures ∙ holds ∙ ap (λ b. b && all_below (hold_ok m) cpu_slots) locks
