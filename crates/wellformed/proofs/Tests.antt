@@ -1,11 +1,18 @@
--- Tests and sums over an index, as the code goes through them: one turn of a loop after the other. Assumes nothing.
+-- Tests and sums over an index, as the code goes through them: one turn of a loop after the other, or one call of `all`. Assumes nothing.
 use mathlib.Core.Path.{◌≡◌, refl, sym, ap, ap₂, ◌∙◌}
-use mathlib.Core.Bool.{Bool, true, false, ◌&&◌, and_assoc}
+use mathlib.Core.Bool.{Bool, true, false, ◌&&◌, and_assoc, false≢true}
 use Prim.Native.Nat.{ℕ, zero, suc, ◌+◌, ◌<◌}
 use native.Mathlib.Nat.{le_refl}
 use native.Mathlib.Numerals.{add-one}
 use native.Mathlib.Omega.{arith}
+use mathlib.Core.List.{List}
+use lib.ListN.{length, get_or}
+use Rattle.std.specs.Bool.{MatchBool}
+use Rattle.std.specs.List.{enumerate_from, AllWithin, HoldsAt}
+use Rattle.std.proofs.lemmas.List.FromFn.{length-enumerate_from, get_or-enumerate_from}
 use Rattle.words.specs.Below.{all_below}
+use Rattle.words.proofs.Below.{all_at, all_from}
+use Rattle.words.proofs.Choice.{bool_ind}
 use Rattle.wellformed.specs.WellFormed.{sum_below}
 
 all_more : (p : ℕ → Bool) (k : ℕ) → all_below p (k + 1) ≡ (all_below p k && p k)
@@ -23,12 +30,7 @@ turn_one f k below x = all_more f k ∙ ap₂ (λ (p q : Bool). p && q) below (s
 pub turn_sum : (f : ℕ → ℕ) (k : ℕ) {sum a : ℕ} → sum ≡ sum_below f k → a ≡ f k → sum + a ≡ sum_below f (k + 1)
 turn_sum f k below x = ap₂ (λ (p q : ℕ). p + q) below x ∙ sym (sum_more f k)
 
--- One turn of a loop that asks three tests, one after the other, and of one that asks four.
-pub turn :
-    (f : ℕ → Bool) (k : ℕ) {ok a b c p q r : Bool}
-    → all_below f k ≡ ok → a ≡ p → b ≡ q → c ≡ r → (p && (q && r)) ≡ f k → all_below f (k + 1) ≡ (((ok && a) && b) && c)
-turn f k below x y z tests = simp and_assoc (cc (all_more f k))
-
+-- One turn of a loop that asks four tests, one after the other.
 pub turn_four :
     (f : ℕ → Bool) (k : ℕ) {ok a b c d p q r s : Bool}
     → all_below f k ≡ ok → a ≡ p → b ≡ q → c ≡ r → d ≡ s → (p && (q && (r && s))) ≡ f k
@@ -76,3 +78,36 @@ in_order true true true false true true true rest = refl
 in_order true true false idles false holds places rest = refl
 in_order true true false idles true false places rest = refl
 in_order true true false idles true true places rest = refl
+
+-- An answer that is true where the test holds at each index, and false where it fails at some, is the test of all.
+pub all_tested :
+    (p : ℕ → Bool) (k : ℕ) (r : Bool)
+    → MatchBool r ((i : ℕ) → i < k → p i ≡ true) ((i : ℕ) × (i < k) × (p i ≡ false)) → r ≡ all_below p k
+all_tested p k true each = sym (all_from p k each)
+all_tested p k false (i, h, fails) =
+    bool_ind (λ b. false ≡ b) (all_below p k) (λ all. absurd (false≢true (sym fails ∙ all_at p k all i h))) (λ _. refl)
+
+-- What `all` says of a test of the elements of a list with their indices.
+abbrev pub Numbered : {A : Type 0} → (ℕ → A → Bool) → List A → Bool → Type 0
+Numbered {A} f xs r =
+    MatchBool r
+    (AllWithin (λ (p : ℕ × A). f p.0 p.1 ≡ true) (enumerate_from 0 xs) 0 (length (enumerate_from 0 xs)))
+    ((i : ℕ) × (i < length (enumerate_from 0 xs)) × HoldsAt (λ (p : ℕ × A). f p.0 p.1 ≡ false) (enumerate_from 0 xs) i)
+
+pub all_numbered :
+    {A : Type 0} (f : ℕ → A → Bool) (d : A) (xs : List A) (k : ℕ) (r : Bool)
+    → length xs ≡ k → Numbered f xs r → r ≡ all_below (λ i. f i (get_or xs i d)) k
+all_numbered {A = A} f d xs k r long tested = all_tested _ k r (go r tested)
+  where
+    at : (b : Bool) (i : ℕ) → i < length xs → HoldsAt (λ (p : ℕ × A). f p.0 p.1 ≡ b) (enumerate_from 0 xs) i → f i (get_or xs i d) ≡ b
+    at b i h holds =
+        let here : i ≡ 0 + i = omega arith in
+        let found = get_or-enumerate_from 0 xs i (0, d) h in
+        ap (λ j. f j (get_or xs i d)) here ∙ ap (λ (p : ℕ × A). f p.0 p.1) (sym found) ∙ holds (0, d)
+
+    go : (t : Bool) → Numbered f xs t
+        → MatchBool t ((i : ℕ) → i < k → f i (get_or xs i d) ≡ true) ((i : ℕ) × (i < k) × (f i (get_or xs i d) ≡ false))
+    go true each = λ i h. at true i (omega (arith, long)) (λ e. each i e (omega arith) (omega (arith, long, length-enumerate_from 0 xs)))
+    go false (i, h, fails) =
+        let below : i < length xs = omega (arith, h, length-enumerate_from 0 xs) in
+        (i, omega (arith, below, long), at false i below fails)
