@@ -5,58 +5,52 @@
 
 #![tactic(auto)]
 
-ghost use Rattle.std.specs.Prelude.{◌≡◌, ◌+◌, ◌*◌, ◌≤◌, length};
-ghost use Rattle.ipi.specs.Ipi.{ipi_says};
-ghost use Rattle.cpu_bytes.specs.Cpus.{
-  cpu_of_bytes,
-  InPlaces,
-  active_bytes,
-  ipi_mask_of_bytes,
-};
+ghost use Rattle.std.specs.Prelude.{◌≡◌, ◌/◌, ◌≤◌, true, false, leb, length, MatchOption};
+ghost use Rattle.error.specs.Answer.{says};
+ghost use Rattle.cpu_bytes.specs.Cpus.{byte_at, cpu_of_bytes, cpus_of_bytes, active_bytes, ipi_mask_of_bytes};
 
-use error::Code;
-use ipi::{CpuRecord, IpiMask};
+use error::Refusal;
+use ipi::CpuRecord;
 
 // How many bytes a CPU has.
 pub const CPU_BYTES: usize = 5;
 
-// The CPU whose bytes begin at a place.
-fn cpu_at(cpus: &[u8], at: usize) -> CpuRecord
-    requires { at + 5 ≤ length cpus.now }
-    ensures { result ≡ cpu_of_bytes cpus.now at }
+// What stands behind the CPUs in the array: no rule looks at it.
+const NO_CPU: CpuRecord = CpuRecord {
+    active: false,
+    priority: 0,
+};
+
+// The CPU that five bytes say. None where the active byte is neither 0 nor 1.
+fn cpu_of(bytes: [u8; CPU_BYTES]) -> Option<CpuRecord>
+    ensures { MatchOption result (leb (byte_at bytes 0) 1 ≡ false) (λ cpu. (leb (byte_at bytes 0) 1 ≡ true) × (cpu ≡ cpu_of_bytes bytes 0)) }
 {
-    let bits = high_first::join(cpus[at + 1], cpus[at + 2], cpus[at + 3], cpus[at + 4]);
-    let priority = high_first::signed(bits);
-    CpuRecord {
-        active: cpus[at] == 1,
-        priority,
+    let [active, a, b, c, d] = bytes;
+    if active > 1 {
+        return None;
     }
+    Some(CpuRecord {
+        active: active == 1,
+        priority: high_first::signed(high_first::join(a, b, c, d)),
+    })
 }
 
-// The CPUs below num_cpus, each in its place, and whether each active byte is 0 or 1. The places from num_cpus on repeat the first CPU: no rule
-// looks at them, and a record at hand fills them fastest. The array alone is returned, since a struct around it would be copied.
-fn decode(cpus: &[u8], num_cpus: u32, valid: &mut bool) -> [CpuRecord; 16]
-    requires { (1 ≤ num_cpus) × ((num_cpus ≤ 16) × (length cpus.now ≡ 5 * num_cpus)) }
-    ensures records { InPlaces cpus.now num_cpus result }
-    ensures valid { valid.new ≡ active_bytes cpus.now num_cpus }
+// The CPUs that bytes say, each in its place. None where one of them says none.
+fn decode(cpus: &[u8]) -> Option<[CpuRecord; 16]>
+    requires { length cpus.now ≤ 80 }
+    ensures { let num = length cpus.now / 5 in
+        MatchOption result (active_bytes cpus.now num ≡ false) (λ records. (active_bytes cpus.now num ≡ true) × (records ≡ cpus_of_bytes cpus.now num)) }
 {
-    let first = cpu_at(cpus, 0);
-    let mut records = [first; 16];
-    let mut all = cpus[0] <= 1;
-    let mut idx: u32 = 1;
-    while idx < num_cpus {
-        let i = idx as usize;
-        let at = CPU_BYTES * i;
-        let active = cpus[at];
-        all = all & (active <= 1);
-        records[i] = cpu_at(cpus, at);
-        idx += 1;
+    let (chunks, _) = cpus.as_chunks::<CPU_BYTES>();
+    let mut records = [NO_CPU; 16];
+    for (idx, bytes) in chunks.iter().enumerate() {
+        records[idx] = cpu_of(*bytes)?;
     }
-    *valid = all;
-    records
+    Some(records)
 }
 
-// The mask of the CPUs to interrupt, from bytes. The number of CPUs is tested first, so that there is a first one and a place for each.
+// The mask of the CPUs to interrupt, from bytes. The number of CPUs and the length are tested first, so that there is a place for each.
+#[tactic(auto, using(crate::proofs::Cases::wrong_form))]
 pub fn ipi_mask_of_bytes(
     current_cpu: u32,
     target_prio: i32,
@@ -64,33 +58,19 @@ pub fn ipi_mask_of_bytes(
     cpus: &[u8],
     num_cpus: u32,
     max_cpus: u32,
-) -> IpiMask
-    ensures { ipi_says result ≡ ipi_mask_of_bytes current_cpu target_prio target_cpu_mask cpus.now num_cpus max_cpus }
+) -> Result<u32, Refusal>
+    ensures { says 0 result ≡ ipi_mask_of_bytes current_cpu target_prio target_cpu_mask cpus.now num_cpus max_cpus }
 {
-    let refused = IpiMask {
-        code: Code::Einval,
-        mask: 0,
-    };
-    if num_cpus < 1 {
-        return refused;
+    if num_cpus > ipi::MAX_IPI_CPUS || cpus.len() != CPU_BYTES * (num_cpus as usize) {
+        return Err(Refusal::Einval);
     }
-    if ipi::MAX_IPI_CPUS < num_cpus {
-        return refused;
-    }
-    if cpus.len() != CPU_BYTES * (num_cpus as usize) {
-        return refused;
-    }
-    let mut valid = false;
-    let answer = ipi::compute_ipi_mask(
+    let records = decode(cpus).ok_or(Refusal::Einval)?;
+    ipi::compute_ipi_mask(
         current_cpu,
         target_prio,
         target_cpu_mask,
-        decode(cpus, num_cpus, &mut valid),
+        records,
         num_cpus,
         max_cpus,
-    );
-    if !valid {
-        return refused;
-    }
-    answer
+    )
 }

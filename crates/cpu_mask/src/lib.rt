@@ -20,6 +20,7 @@ pub const MASK_BITS: u32 = 32;
 pub const MAX_MASK_CPUS: u32 = 16;
 
 // Whether a mask allows a CPU: its bit is set. None allows a CPU past its bits.
+#[tactic(auto, using(crate::proofs::Tests::allowed, crate::proofs::Tests::past_is_barred))]
 pub fn allows(mask: u32, cpu: u32) -> bool
     ensures { result ≡ bit cpu mask }
 {
@@ -27,6 +28,7 @@ pub fn allows(mask: u32, cpu: u32) -> bool
 }
 
 // Whether every bit of a mask is below n: it allows no CPU from n on.
+#[tactic(auto, using(crate::proofs::Tests::past_is_below))]
 pub fn bits_below(mask: u32, n: u32) -> bool
     ensures { result ≡ bits_below mask n }
 {

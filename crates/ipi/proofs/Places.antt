@@ -18,10 +18,6 @@ abbrev pub Placed : (ℕ → CpuRecord) → ℕ → List CpuRecord → Type 0
 Placed cpu num cpus = (i : ℕ) → i < num → get_or cpus i no_cpu ≡ cpu i
 
 module _ (cpu : ℕ → CpuRecord) where
-  -- The first CPU alone.
-  pub first_placed : (cpus : List CpuRecord) → get_or cpus 0 no_cpu ≡ cpu 0 → Placed cpu 1 cpus
-  first_placed cpus e i h = let none : i ≡ 0 = omega arith in rw none e
-
   -- One CPU more.
   pub next_placed : (num : ℕ) (cpus : List CpuRecord) → num < length cpus → Placed cpu num cpus → Placed cpu (num + 1) (set cpus num (cpu num))
   next_placed num cpus room all i h = by (same_or i num)
