@@ -1,6 +1,6 @@
 // Every constant of the crate error, with its number.
 use crate::show;
-use error::Code;
+use error::Refusal;
 use std::io;
 
 fn constant(rt: &impl Print, name: &str, number: i32) -> io::Result<()> {
@@ -30,20 +30,23 @@ fn second(rt: &impl Print) -> io::Result<()> {
     constant(rt, "ECANCELED", error::ECANCELED)
 }
 
-// A case of the enum, by name, with its number.
-fn numbered(rt: &impl Print, case: Code) -> io::Result<()> {
-    println!(rt; "number: {} {}", show::code(case), error::number(case))
-}
+const ANSWERS: [Result<(), Refusal>; 8] = [
+    Ok(()),
+    Err(Refusal::Eperm),
+    Err(Refusal::Enomem),
+    Err(Refusal::Ebusy),
+    Err(Refusal::Einval),
+    Err(Refusal::Edeadlk),
+    Err(Refusal::Ealready),
+    Err(Refusal::Eoverflow),
+];
 
+// What a call that gives no value can answer, by name, with its number.
 fn cases(rt: &impl Print) -> io::Result<()> {
-    numbered(rt, Code::Ok)?;
-    numbered(rt, Code::Eperm)?;
-    numbered(rt, Code::Enomem)?;
-    numbered(rt, Code::Ebusy)?;
-    numbered(rt, Code::Einval)?;
-    numbered(rt, Code::Edeadlk)?;
-    numbered(rt, Code::Ealready)?;
-    numbered(rt, Code::Eoverflow)
+    for answer in ANSWERS {
+        println!(rt; "number: {} {}", show::code(answer), error::number(answer))?;
+    }
+    Ok(())
 }
 
 pub(crate) fn all(rt: &impl Print) -> io::Result<()> {

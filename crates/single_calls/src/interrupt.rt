@@ -9,71 +9,24 @@ const COUNTS: [u32; 7] = [0, 1, 3, 4, 16, 17, 0xffff_ffff];
 
 const MASKS: [u32; 11] = [0, 1, 2, 4, 15, 254, 255, 256, 0xffff, 0x1_0000, 0xffff_ffff];
 
-const FOUR: [CpuRecord; 16] = [
-    CpuRecord {
-        active: true,
-        priority: 9,
-    },
-    CpuRecord {
-        active: true,
-        priority: 9,
-    },
-    CpuRecord {
-        active: true,
-        priority: 5,
-    },
-    CpuRecord {
-        active: false,
-        priority: 9,
-    },
-    CpuRecord {
-        active: true,
-        priority: -2147483648,
-    },
-    CpuRecord {
-        active: true,
-        priority: 2147483647,
-    },
-    CpuRecord {
-        active: true,
-        priority: -1,
-    },
-    CpuRecord {
-        active: true,
-        priority: 0,
-    },
-    CpuRecord {
-        active: false,
-        priority: 2147483647,
-    },
-    CpuRecord {
-        active: true,
-        priority: 128,
-    },
-    CpuRecord {
-        active: true,
-        priority: 127,
-    },
-    CpuRecord {
-        active: true,
-        priority: -128,
-    },
-    CpuRecord {
-        active: true,
-        priority: -129,
-    },
-    CpuRecord {
-        active: true,
-        priority: 1,
-    },
-    CpuRecord {
-        active: true,
-        priority: 6,
-    },
-    CpuRecord {
-        active: true,
-        priority: 2147483647,
-    },
+// The CPUs that each call sees: whether one is active, and its priority.
+const CPUS: [(bool, i32); 16] = [
+    (true, 9),
+    (true, 9),
+    (true, 5),
+    (false, 9),
+    (true, -2147483648),
+    (true, 2147483647),
+    (true, -1),
+    (true, 0),
+    (false, 2147483647),
+    (true, 128),
+    (true, 127),
+    (true, -128),
+    (true, -129),
+    (true, 1),
+    (true, 6),
+    (true, 2147483647),
 ];
 
 fn compute(
@@ -84,11 +37,12 @@ fn compute(
     num: u32,
     max: u32,
 ) -> io::Result<()> {
-    let r = ipi::compute_ipi_mask(current, target, mask, FOUR, num, max);
+    let cpus = CPUS.map(|(active, priority)| CpuRecord { active, priority });
+    let r = ipi::compute_ipi_mask(current, target, mask, cpus, num, max);
     println!(rt;
         "compute_ipi_mask current {current} target {target} mask {mask} num {num} max {max}: {} mask {}",
-        show::code(r.code),
-        r.mask
+        show::code(r),
+        r.unwrap_or(0)
     )
 }
 
@@ -117,8 +71,8 @@ fn validate(rt: &impl Print, mask: u32, current: u32, max: u32) -> io::Result<()
     let r = ipi::validate_ipi_mask(mask, current, max);
     println!(rt;
         "validate_ipi_mask mask {mask} current {current} max {max}: {} {}",
-        show::code(r.code),
-        show::yes_or_no(r.yes)
+        show::code(r),
+        show::yes_or_no(r.unwrap_or(false))
     )
 }
 

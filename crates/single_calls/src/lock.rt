@@ -1,22 +1,25 @@
 // The calls on one lock record.
 use crate::show;
-use error::YesNo;
-use spinlock::{Changed, Operation, Owner, SpinlockState};
+use error::Refusal;
+use spinlock::{Operation, SpinlockState};
 use std::{fmt, io};
 
 const DEPTHS: [u32; 10] = [0, 1, 2, 3, 4, 254, 255, 256, 0x8000_0000, 0xffff_ffff];
 
 const THREADS: [u32; 3] = [0, 7, 0xffff_ffff];
 
+// What a call that changes a record gives.
+type Changed = Result<SpinlockState, Refusal>;
+
 // An owner as the lines have it.
 #[derive(Clone, Copy)]
-struct Holder(Owner);
+struct Holder(Option<u32>);
 
 impl fmt::Display for Holder {
     fn fmt<W: fmt::Write>(&self, f: &mut fmt::Formatter<W>) -> fmt::Result {
         match self.0 {
-            Owner::None => write!(f, "owner none"),
-            Owner::Thread(thread) => write!(f, "owner {thread}"),
+            None => write!(f, "owner none"),
+            Some(thread) => write!(f, "owner {thread}"),
         }
     }
 }
@@ -39,9 +42,9 @@ fn asked(rt: &impl Print, name: &str, s: SpinlockState, tid: u32) -> io::Result<
     print!(rt; "{name} {} thread {tid}", Record(s))
 }
 
-// What a call that changes the record gave.
-fn changed(rt: &impl Print, r: Changed) -> io::Result<()> {
-    println!(rt; ": {} {}", show::code(r.code), Record(r.state))
+// What a call that changes the record gave. A refusal leaves the record.
+fn changed(rt: &impl Print, s: SpinlockState, r: Changed) -> io::Result<()> {
+    println!(rt; ": {} {}", show::code(r), Record(r.unwrap_or(s)))
 }
 
 fn acquired(
@@ -54,18 +57,28 @@ fn acquired(
 ) -> io::Result<()> {
     asked(rt, name, s, tid)?;
     print!(rt; " nested {}", show::flag(nested))?;
-    changed(rt, r)
+    changed(rt, s, r)
 }
 
 // A release, or a plain acquire again.
 fn done(rt: &impl Print, name: &str, s: SpinlockState, tid: u32, r: Changed) -> io::Result<()> {
     asked(rt, name, s, tid)?;
-    changed(rt, r)
+    changed(rt, s, r)
 }
 
-fn answered(rt: &impl Print, name: &str, s: SpinlockState, tid: u32, r: YesNo) -> io::Result<()> {
+fn answered(
+    rt: &impl Print,
+    name: &str,
+    s: SpinlockState,
+    tid: u32,
+    r: Result<bool, Refusal>,
+) -> io::Result<()> {
     asked(rt, name, s, tid)?;
-    println!(rt; ": {} {}", show::code(r.code), show::yes_or_no(r.yes))
+    println!(rt;
+        ": {} {}",
+        show::code(r),
+        show::yes_or_no(r.unwrap_or(false))
+    )
 }
 
 // Every call by one thread on one record.
@@ -117,12 +130,12 @@ fn elsewhere(rt: &impl Print, s: SpinlockState, tid: u32) -> io::Result<()> {
     )
 }
 
-fn read(rt: &impl Print, name: &str, s: SpinlockState, r: YesNo) -> io::Result<()> {
+fn read(rt: &impl Print, name: &str, s: SpinlockState, r: Result<bool, Refusal>) -> io::Result<()> {
     println!(rt;
         "{name} {}: {} {}",
         Record(s),
-        show::code(r.code),
-        show::yes_or_no(r.yes)
+        show::code(r),
+        show::yes_or_no(r.unwrap_or(false))
     )
 }
 
@@ -131,8 +144,8 @@ fn depth(rt: &impl Print, s: SpinlockState) -> io::Result<()> {
     println!(rt;
         "nest_depth {}: {} depth {}",
         Record(s),
-        show::code(r.code),
-        r.depth
+        show::code(r),
+        r.unwrap_or(0)
     )
 }
 
@@ -141,8 +154,8 @@ fn owner_of(rt: &impl Print, s: SpinlockState) -> io::Result<()> {
     println!(rt;
         "owner_get {}: {} {}",
         Record(s),
-        show::code(r.code),
-        Holder(r.owner)
+        show::code(r),
+        Holder(r.unwrap_or(None))
     )
 }
 
@@ -163,7 +176,7 @@ fn on_record(rt: &impl Print, s: SpinlockState) -> io::Result<()> {
 }
 
 fn at_depth(rt: &impl Print, nest_count: u32, irq_saved: bool) -> io::Result<()> {
-    for owner in [Owner::None, Owner::Thread(7)] {
+    for owner in [None, Some(7)] {
         on_record(
             rt,
             SpinlockState {

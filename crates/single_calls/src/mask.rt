@@ -1,6 +1,5 @@
 // The calls on masks.
 use crate::show;
-use cpu_mask::PinMask;
 use std::io;
 
 const MASKS: [u32; 13] = [
@@ -34,8 +33,8 @@ fn modify(
         "cpu_mask_mod current {current} enable {enable} disable {disable} running {} pin_only {}: {} mask {}",
         show::flag(running),
         show::flag(pin_only),
-        show::code(r.error),
-        r.mask
+        show::code(r),
+        r.unwrap_or(current)
     )
 }
 
@@ -62,11 +61,12 @@ fn on_mask(rt: &impl Print, mask: u32) -> io::Result<()> {
 }
 
 fn pin(rt: &impl Print, cpu: u32, max: u32) -> io::Result<()> {
-    print!(rt; "cpu_pin_compute cpu {cpu} max {max}: ")?;
-    match cpu_mask::cpu_pin_compute(cpu, max) {
-        PinMask::Only(mask) => println!(rt; "OK mask {mask}"),
-        PinMask::BadCpu => println!(rt; "EINVAL mask 0"),
-    }
+    let r = cpu_mask::cpu_pin_compute(cpu, max);
+    println!(rt;
+        "cpu_pin_compute cpu {cpu} max {max}: {} mask {}",
+        show::code(r),
+        r.unwrap_or(0)
+    )
 }
 
 fn pin_of(rt: &impl Print, cpu: u32) -> io::Result<()> {

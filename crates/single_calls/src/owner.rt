@@ -1,6 +1,6 @@
 // The calls on owner words.
 use crate::show;
-use spinlock_validate::Decoded;
+use spinlock_validate::Width;
 use std::io;
 
 const CPUS: [u32; 9] = [0, 1, 3, 4, 15, 16, 255, 256, 0xffff_ffff];
@@ -31,13 +31,13 @@ const WORDS: [u64; 22] = [
 ];
 
 fn compute(rt: &impl Print, cpu: u32, thread: u64, wide: bool) -> io::Result<()> {
-    let width = spinlock_validate::width_by(wide);
+    let width = Width::from(wide);
     let r = spinlock_validate::spin_lock_compute_owner(cpu, thread, width);
     println!(rt;
         "spin_lock_compute_owner cpu {cpu} thread {thread} wide {}: {} word {}",
         show::flag(wide),
-        show::code(r.code),
-        r.word
+        show::code(r),
+        r.unwrap_or(0)
     )
 }
 
@@ -46,33 +46,33 @@ fn decode(rt: &impl Print, word: u64, wide: bool) -> io::Result<()> {
         "spin_lock_decode_owner word {word} wide {}: ",
         show::flag(wide)
     )?;
-    let width = spinlock_validate::width_by(wide);
+    let width = Width::from(wide);
     match spinlock_validate::spin_lock_decode_owner(word, width) {
-        Decoded::Free => println!(rt; "OK free"),
-        Decoded::Held { thread, cpu } => println!(rt; "OK held thread {thread} cpu {cpu}"),
-        Decoded::BadWord => println!(rt; "EINVAL none"),
+        Ok(None) => println!(rt; "OK free"),
+        Ok(Some(held)) => println!(rt; "OK held thread {} cpu {}", held.thread, held.cpu),
+        Err(why) => println!(rt; "{why} none"),
     }
 }
 
 fn lock_valid(rt: &impl Print, word: u64, cpu: u32, wide: bool) -> io::Result<()> {
-    let width = spinlock_validate::width_by(wide);
+    let width = Width::from(wide);
     let r = spinlock_validate::spin_lock_valid(word, cpu, width);
     println!(rt;
         "spin_lock_valid word {word} cpu {cpu} wide {}: {} {}",
         show::flag(wide),
-        show::code(r.code),
-        show::yes_or_no(r.yes)
+        show::code(r),
+        show::yes_or_no(r.unwrap_or(false))
     )
 }
 
 fn unlock_valid(rt: &impl Print, word: u64, cpu: u32, thread: u64, wide: bool) -> io::Result<()> {
-    let width = spinlock_validate::width_by(wide);
+    let width = Width::from(wide);
     let r = spinlock_validate::spin_unlock_valid(word, cpu, thread, width);
     println!(rt;
         "spin_unlock_valid word {word} cpu {cpu} thread {thread} wide {}: {} {}",
         show::flag(wide),
-        show::code(r.code),
-        show::yes_or_no(r.yes)
+        show::code(r),
+        show::yes_or_no(r.unwrap_or(false))
     )
 }
 
