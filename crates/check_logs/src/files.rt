@@ -1,49 +1,57 @@
 // A file by name, as far as a room holds it.
 //
 // A read that fails is told from the end of a file, so that what cannot be read never counts as empty. Every file that was opened is closed.
-
-ghost use Rattle.std.specs.Prelude.{◌≤◌, length, IfOk};
-
+use std::fmt;
 use std::fs::File;
 use std::io;
-use std::io::Read;
 use std::rt::Files;
 
-// What came of a file: how many of its bytes stand over the front of the room, or the error that kept it from being opened or read.
+// The numbers of the system's errors that have words: no such file, and not allowed.
+const ENOENT: i32 = 2;
+
+const EACCES: i32 = 13;
+
+// Why a file could not be opened or read: by the number that the system gave, or else what the error says of itself.
 #[derive(Clone, Copy)]
-pub(crate) enum Content {
-    Bytes(usize),
+struct Why(io::Error);
+
+impl fmt::Display for Why {
+    fn fmt<W: fmt::Write>(&self, f: &mut fmt::Formatter<W>) -> fmt::Result {
+        match self.0.raw_os_error() {
+            Some(ENOENT) => f.write_str("no such file"),
+            Some(EACCES) => f.write_str("not allowed"),
+            Some(number) => write!(f, "error {number}"),
+            None => write!(f, "{}", self.0),
+        }
+    }
+}
+
+// A file of which nothing can be judged, and why.
+#[derive(Clone, Copy)]
+pub(crate) enum NotThere {
     NotOpened(io::Error),
     NotRead(io::Error),
 }
 
-// Reads until the room is full or the file ends, and says how many bytes stand over the front of the room.
-fn fill<R: Read>(file: &mut R, room: &mut [u8]) -> io::Result<usize>
-    ensures { IfOk result (λ size. size ≤ length room.new) }
-{
-    let mut size = 0;
-    while size < room.len() {
-        let more = file.read(&mut room[size..])?;
-        if more == 0 {
-            break;
+impl fmt::Display for NotThere {
+    fn fmt<W: fmt::Write>(&self, f: &mut fmt::Formatter<W>) -> fmt::Result {
+        match self {
+            NotThere::NotOpened(error) => write!(f, "cannot be opened: {}", Why(*error)),
+            NotThere::NotRead(error) => write!(f, "cannot be read: {}", Why(*error)),
         }
-        size += more;
     }
-    Ok(size)
 }
 
-// Opens a file, reads it and closes it. The library opens files by text alone, so that a name that is not UTF-8 is refused here.
-pub(crate) fn read(files: &impl Files, name: &[u8], room: &mut [u8]) -> Content {
+// Opens a file, reads it and closes it, and says how many of its bytes stand over the front of the room. The library opens files by text alone, so
+// that a name that is not UTF-8 is refused here.
+pub(crate) fn read(files: &impl Files, name: &[u8], room: &mut [u8]) -> Result<usize, NotThere> {
     let Ok(path) = str::from_utf8(name) else {
         let why = "the name is not UTF-8";
-        return Content::NotOpened(io::Error::new(io::ErrorKind::InvalidFilename, why));
+        return Err(NotThere::NotOpened(io::Error::new(
+            io::ErrorKind::InvalidFilename,
+            why,
+        )));
     };
-    let mut file = match File::open(files, path) {
-        Ok(file) => file,
-        Err(error) => return Content::NotOpened(error),
-    };
-    match fill(&mut file, room) {
-        Ok(size) => Content::Bytes(size),
-        Err(error) => Content::NotRead(error),
-    }
+    let mut file = File::open(files, path).map_err(NotThere::NotOpened)?;
+    reading::fill(&mut file, room).map_err(|failed| NotThere::NotRead(failed.error))
 }

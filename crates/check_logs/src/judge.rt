@@ -1,13 +1,16 @@
 // A pair is judged, and its line written.
-use crate::files::Content;
+use crate::files;
+use crate::files::NotThere;
+use crate::names::{Asked, CodeBits};
 use crate::say::Count;
-use crate::{files, names};
 use answers::ANSWER_BYTES;
-use claims::Verdict;
-use error::Code;
+use error::Refusal;
 use log_tests::MAX_LOG_BYTES;
+use machine::Setup;
 use program::MAX_ANSWER_BYTES;
-use record::RECORD_BYTES;
+use reading::{byte_at, front_of, rest_of, word_at};
+use record::{Operation, RECORD_BYTES};
+use std::fmt;
 use std::io;
 use std::rt::Files;
 
@@ -24,7 +27,7 @@ const SETUP_BYTES: usize = 1;
 const VALUE_AT: usize = 4;
 
 // What came of a pair.
-#[derive(Clone, Copy)]
+#[derive(Clone, Copy, Debug, PartialEq, Eq)]
 pub(crate) enum Outcome {
     Accepted,
     Differs,
@@ -44,52 +47,24 @@ pub(crate) fn no_answers(rt: &impl Print, log_name: &[u8]) -> io::Result<Outcome
     Ok(Outcome::Refused)
 }
 
-// The end of the line for a file of which there is nothing to judge.
-fn not_there(rt: &impl Print, what: &str, failed: &str, error: &io::Error) -> io::Result<Outcome> {
-    print!(rt; "refused, {what} cannot be {failed}: ")?;
-    names::print_error(rt, error)?;
-    println!(rt)?;
-    Ok(Outcome::Refused)
+// The answer over the front of some bytes: its code by name, and its value.
+#[derive(Clone, Copy)]
+struct Answer<'a>(&'a [u8]);
+
+impl<'a> fmt::Display for Answer<'a> {
+    fn fmt<W: fmt::Write>(&self, f: &mut fmt::Formatter<W>) -> fmt::Result {
+        let code = CodeBits(word_at(self.0, 0));
+        write!(f, "{code} {}", word_at(self.0, VALUE_AT))
+    }
 }
 
-// The bytes up to a place, or all.
-fn front_of(s: &[u8], end: usize) -> &[u8] {
-    if end <= s.len() { &s[0..end] } else { s }
-}
-
-// The bytes from a place on, or none.
-fn rest_of(s: &[u8], at: usize) -> &[u8] {
-    if at <= s.len() { &s[at..] } else { &s[..0] }
-}
-
-// The byte at a place, or 0.
-fn byte_at(s: &[u8], i: usize) -> u8 {
-    if i < s.len() { s[i] } else { 0 }
-}
-
-// Four bytes from a place on, high byte first.
-fn word_at(s: &[u8], at: usize) -> u32 {
-    let word = rest_of(s, at);
-    high_first::join(
-        byte_at(word, 0),
-        byte_at(word, 1),
-        byte_at(word, 2),
-        byte_at(word, 3),
-    )
-}
-
-// Writes the answer over the front of some bytes: its code by name, and its value.
-fn print_answer(rt: &impl Print, answer: &[u8]) -> io::Result<()> {
-    names::print_code(rt, word_at(answer, 0))?;
-    print!(rt; " {}", word_at(answer, VALUE_AT))
-}
-
-// What a record of an input asks for, by name.
-fn asked(input: &[u8], at: usize) -> &'static str {
-    let made = machine::from_setup_byte(byte_at(input, 0));
-    let fresh = made.machine;
-    let request = record::request_of(fresh.setup, front_of(rest_of(input, at), RECORD_BYTES));
-    names::operation(request.operation)
+// What a record of an input asks for.
+fn asked(input: &[u8], at: usize) -> Operation {
+    let setup = Setup::try_from(byte_at(input, 0));
+    match setup {
+        Ok(setup) => record::request_of(setup, front_of(rest_of(input, at), RECORD_BYTES)).operation,
+        Err(_) => Operation::Malformed,
+    }
 }
 
 // The end of the line for a claim that is wrong: the lowest record whose answer differs, what it asks for, the answer that is claimed, and the one
@@ -99,12 +74,13 @@ fn differs(rt: &impl Print, input: &[u8], claim: &[u8], lowest: u32) -> io::Resu
     let at = number * RECORD_BYTES + SETUP_BYTES;
     let answer_at = number * ANSWER_BYTES;
     let mut right = [0u8; MAX_ANSWER_BYTES];
-    program::respond(front_of(input, at + RECORD_BYTES), &mut right);
-    print!(rt; "record {number} differs: {}, claimed ", asked(input, at))?;
-    print_answer(rt, rest_of(claim, answer_at))?;
-    print!(rt; ", right ")?;
-    print_answer(rt, rest_of(&right, answer_at))?;
-    println!(rt)?;
+    let _ = program::respond(front_of(input, at + RECORD_BYTES), &mut right);
+    println!(rt;
+        "record {number} differs: {}, claimed {}, right {}",
+        Asked(asked(input, at)),
+        Answer(rest_of(claim, answer_at)),
+        Answer(rest_of(&right, answer_at))
+    )?;
     Ok(Outcome::Differs)
 }
 
@@ -121,29 +97,27 @@ fn print_claimed(rt: &impl Print, size: usize) -> io::Result<()> {
 
 // Writes why a pair is refused: by the setup byte and the sizes, in the order in which they are judged.
 fn print_why(rt: &impl Print, input: &[u8], claimed: usize) -> io::Result<()> {
-    if input.len() == 0 {
+    let Some((setup, log)) = input.split_first() else {
         return print!(rt; "no setup byte");
-    }
-    let made = machine::from_setup_byte(input[0]);
-    if !error::is_ok(made.code) {
+    };
+    if Setup::try_from(*setup).is_err() {
         return print!(rt; "a bad setup byte");
     }
-    let size = input.len() - SETUP_BYTES;
-    if size > MAX_LOG_BYTES {
+    if log.len() > MAX_LOG_BYTES {
         let most = Count(MAX_LOG_BYTES, "byte");
         return print!(rt; "the log has more than {most}");
     }
-    if size % RECORD_BYTES != 0 {
+    if log.len() % RECORD_BYTES != 0 {
         return print!(rt; "the log ends inside a record");
     }
     print_claimed(rt, claimed)?;
-    let records = Count(size / RECORD_BYTES, "record");
+    let records = Count(log.len() / RECORD_BYTES, "record");
     print!(rt; " to {records}")
 }
 
 // The end of the line for a pair that is not judged.
-fn refused(rt: &impl Print, code: Code, input: &[u8], claimed: usize) -> io::Result<Outcome> {
-    print!(rt; "refused, {}: ", names::code(code))?;
+fn refused(rt: &impl Print, why: Refusal, input: &[u8], claimed: usize) -> io::Result<Outcome> {
+    print!(rt; "refused, {why}: ")?;
     print_why(rt, input, claimed)?;
     println!(rt)?;
     Ok(Outcome::Refused)
@@ -159,19 +133,24 @@ fn accepted(rt: &impl Print, input: &[u8]) -> io::Result<Outcome> {
 // Judges an input and a claim to it.
 fn judged(rt: &impl Print, input: &[u8], claim: &[u8]) -> io::Result<Outcome> {
     match claims::check_input(input, claim) {
-        Verdict::Right => accepted(rt, input),
-        Verdict::Differs(lowest) => differs(rt, input, claim, lowest),
-        Verdict::Refused(code) => refused(rt, code, input, claim.len()),
+        Ok(None) => accepted(rt, input),
+        Ok(Some(lowest)) => differs(rt, input, claim, lowest),
+        Err(why) => refused(rt, why, input, claim.len()),
     }
+}
+
+// The end of the line for a file of which there is nothing to judge.
+fn not_there(rt: &impl Print, what: &str, why: NotThere) -> io::Result<Outcome> {
+    println!(rt; "refused, {what} {why}")?;
+    Ok(Outcome::Refused)
 }
 
 // Reads the answers to an input, and judges the two.
 fn with_input(rt: &(impl Files + Print), input: &[u8], answers_name: &[u8]) -> io::Result<Outcome> {
     let mut claim = [0u8; CLAIM_ROOM];
     match files::read(rt, answers_name, &mut claim) {
-        Content::Bytes(size) => judged(rt, input, front_of(&claim, size)),
-        Content::NotOpened(error) => not_there(rt, "the answers", "opened", &error),
-        Content::NotRead(error) => not_there(rt, "the answers", "read", &error),
+        Ok(size) => judged(rt, input, front_of(&claim, size)),
+        Err(why) => not_there(rt, "the answers", why),
     }
 }
 
@@ -187,8 +166,7 @@ pub(crate) fn pair(
     print!(rt; ": ")?;
     let mut input = [0u8; INPUT_ROOM];
     match files::read(rt, log_name, &mut input) {
-        Content::Bytes(size) => with_input(rt, front_of(&input, size), answers_name),
-        Content::NotOpened(error) => not_there(rt, "the log", "opened", &error),
-        Content::NotRead(error) => not_there(rt, "the log", "read", &error),
+        Ok(size) => with_input(rt, front_of(&input, size), answers_name),
+        Err(why) => not_there(rt, "the log", why),
     }
 }

@@ -28,7 +28,7 @@ const PAIR: usize = 2;
 const MAX_NAME: usize = 4095;
 
 // How many pairs had each outcome.
-#[derive(Clone, Copy)]
+#[derive(Clone, Copy, Debug, PartialEq, Eq, Default)]
 struct Tally {
     accepted: usize,
     differs: usize,
@@ -40,19 +40,13 @@ fn counted(tally: Tally, outcome: Outcome) -> Tally
     requires { tally.accepted + tally.differs + tally.refused < 2 ^ 63 }
     ensures { result.accepted + result.differs + result.refused ≡ tally.accepted + tally.differs + tally.refused + 1 }
 {
-    let mut accepted = tally.accepted;
-    let mut differs = tally.differs;
-    let mut refused = tally.refused;
+    let mut tally = tally;
     match outcome {
-        Outcome::Accepted => accepted += 1,
-        Outcome::Differs => differs += 1,
-        Outcome::Refused => refused += 1,
+        Outcome::Accepted => tally.accepted += 1,
+        Outcome::Differs => tally.differs += 1,
+        Outcome::Refused => tally.refused += 1,
     }
-    Tally {
-        accepted,
-        differs,
-        refused,
-    }
+    tally
 }
 
 // The pair whose log is named by the argument of this number. There is such an argument; there may be none behind it.
@@ -76,11 +70,7 @@ fn check_pairs(rt: &(impl Env + Files + Print), pairs: usize) -> io::Result<Tall
     requires { pairs * 2 < 2 ^ 64 }
     ensures { IfOk result (λ tally. tally.accepted + tally.differs + tally.refused ≡ pairs) }
 {
-    let mut tally = Tally {
-        accepted: 0,
-        differs: 0,
-        refused: 0,
-    };
+    let mut tally = Tally::default();
     for pair in 0..pairs {
         let outcome = check_pair(rt, pair * PAIR + FIRST)?;
         tally = counted(tally, outcome);

@@ -8,109 +8,85 @@
 #![tactic(auto)]
 
 use answers::ANSWER_BYTES;
-use error::Code;
+use error::Refusal;
 use feed::Form;
 use log_tests::MAX_LOG_BYTES;
 use program::MAX_ANSWER_BYTES;
 use std::io;
 use std::io::{Read, Write};
 
-// The most reads. A proved loop has to end, and nothing says that an input does; no run makes so many.
-const MAX_READS: u64 = 0xffff_ffff_ffff_ffff;
-
-// A form after a read, with whether there is more to read, and else the code at the end.
-#[derive(Clone, Copy)]
-struct Turn {
-    code: Code,
-    form: Form,
-    more: bool,
+// Why no more of a log is followed before its end: it is refused, or its answers can't be written.
+#[derive(Clone, Copy, Debug)]
+enum Stop {
+    Refused(Refusal),
+    NotWritten(io::Error),
 }
 
-// Writes the first bytes of a buffer, and says whether it has so many.
-fn show<W: Write>(output: &mut W, out: &[u8], size: usize) -> io::Result<bool> {
-    if size <= out.len() {
-        output.write_all(&out[..size])?;
-        return Ok(true);
+impl From<Refusal> for Stop {
+    fn from(why: Refusal) -> Stop {
+        Stop::Refused(why)
     }
-    Ok(false)
 }
 
-// Writes one answer, for an input that is refused.
-fn refuse<W: Write>(output: &mut W, code: Code) -> io::Result<()> {
-    let mut out = [0u8; ANSWER_BYTES];
-    answers::put_answer(&mut out, code, 0);
-    output.write_all(&out)
+impl From<io::Error> for Stop {
+    fn from(error: io::Error) -> Stop {
+        Stop::NotWritten(error)
+    }
 }
 
 // Feeds a fragment, and writes its answers. At most eleven bytes were pending, so it completes no more records than the longest log has.
-fn answer<W: Write>(output: &mut W, f: Form, fragment: &[u8]) -> io::Result<Turn> {
+fn answer<W: Write>(output: &mut W, form: &mut Form, fragment: &[u8]) -> Result<(), Stop> {
     let mut out = [0u8; MAX_ANSWER_BYTES];
-    let fed = feed::feed(f, fragment, &mut out);
-    let shown = show(output, &out, fed.records as usize * ANSWER_BYTES)?;
-    let code = fed.code;
-    let form = fed.form;
-    Ok(Turn {
-        code,
-        form,
-        more: shown && error::is_ok(code),
-    })
+    let records = feed::feed(form, fragment, &mut out)?;
+    output.write_all(reading::front_of(&out, records as usize * ANSWER_BYTES))?;
+    Ok(())
 }
 
-// One read: what is there is fed, and where the input ends the form is finished.
-fn follow_some<R: Read, W: Write>(input: &mut R, output: &mut W, f: Form) -> io::Result<Turn> {
+// One read: what is there is fed. Says whether there was anything.
+fn follow_some<R: Read, W: Write>(
+    input: &mut R,
+    output: &mut W,
+    form: &mut Form,
+) -> Result<bool, Stop> {
     let mut fragment = [0u8; MAX_LOG_BYTES];
     let size = input.read(&mut fragment).unwrap_or(0);
     if size == 0 {
-        let end = feed::finish(f);
-        let code = end.code;
-        let form = end.form;
-        return Ok(Turn {
-            code,
-            form,
-            more: false,
-        });
+        return Ok(false);
     }
-    answer(output, f, &fragment[..size])
+    answer(output, form, reading::front_of(&fragment, size))?;
+    Ok(true)
 }
 
-// Every read of a log, and the code at its end.
-fn follow_log<R: Read, W: Write>(input: &mut R, output: &mut W, form: Form) -> io::Result<Code> {
-    let mut turn = Turn {
-        code: Code::Ok,
-        form,
-        more: true,
-    };
-    for _ in 0..MAX_READS {
-        if !turn.more {
-            break;
-        }
-        turn = follow_some(input, output, turn.form)?;
-    }
-    Ok(turn.code)
-}
-
-// The setup byte, and the log behind it.
-fn follow_input<R: Read, W: Write>(input: &mut R, output: &mut W) -> io::Result<Code> {
+// The setup byte, and every read of the log behind it. Where the input ends the form is finished. A proved loop has to end, and nothing says that an
+// input does; no run makes so many reads.
+fn follow_input<R: Read, W: Write>(input: &mut R, output: &mut W) -> Result<(), Stop> {
     let mut setup = [0u8; 1];
     if input.read(&mut setup).unwrap_or(0) != 1 {
-        return Ok(Code::Einval);
+        return Err(Stop::Refused(Refusal::Einval));
     }
-    let made = machine::from_setup_byte(setup[0]);
-    if !error::is_ok(made.code) {
-        return Ok(made.code);
+    let machine = machine::from_setup_byte(setup[0])?;
+    let mut form = feed::start(machine)?;
+    for _ in 0..u64::MAX {
+        if !follow_some(input, output, &mut form)? {
+            break;
+        }
     }
-    let started = feed::start(made.machine);
-    if !error::is_ok(started.code) {
-        return Ok(started.code);
-    }
-    follow_log(input, output, started.form)
+    feed::finish(&form)?;
+    Ok(())
+}
+
+// One answer, for an input that is refused.
+fn refuse<W: Write>(output: &mut W, why: Refusal) -> io::Result<()> {
+    let mut out = [0u8; ANSWER_BYTES];
+    let _ = answers::put_answer(&mut out, Err(why), 0);
+    output.write_all(&out)
 }
 
 fn main(rt: HostRuntime) -> io::Result<()> {
     let mut output = rt.stdout();
-    let code = follow_input(&mut rt.stdin(), &mut output)?;
-    if !error::is_ok(code) {
-        refuse(&mut output, code)?;
+    match follow_input(&mut rt.stdin(), &mut output) {
+        Ok(()) => Ok(()),
+        Err(Stop::Refused(why)) => refuse(&mut output, why),
+        Err(Stop::NotWritten(error)) => Err(error),
     }
-    Ok(())
 }

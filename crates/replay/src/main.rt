@@ -5,41 +5,16 @@
 
 #![tactic(auto)]
 
-ghost use Rattle.std.specs.Prelude.{◌≤◌, length};
-
 use std::io;
-use std::io::{Read, Write};
+use std::io::Write;
 
 // Room for the longest input and one byte more.
 const INPUT_ROOM: usize = program::MAX_INPUT_BYTES + 1;
 
-// Reads until the room is full or the input ends, and says how many bytes stand over the front of the room.
-fn read_input<R: Read>(input: &mut R, room: &mut [u8]) -> usize
-    ensures { result ≤ length room.new }
-{
-    let mut size = 0;
-    while size < room.len() {
-        let more = input.read(&mut room[size..]).unwrap_or(0);
-        if more == 0 {
-            break;
-        }
-        size += more;
-    }
-    size
-}
-
-// Writes the first bytes of a buffer.
-fn show<W: Write>(output: &mut W, out: &[u8], size: usize) -> io::Result<()> {
-    if size <= out.len() {
-        output.write_all(&out[..size])?;
-    }
-    Ok(())
-}
-
 fn main(rt: HostRuntime) -> io::Result<()> {
     let mut input = [0u8; INPUT_ROOM];
-    let size = read_input(&mut rt.stdin(), &mut input);
+    let size = reading::fill(&mut rt.stdin(), &mut input).unwrap_or_else(|failed| failed.size);
     let mut out = [0u8; program::MAX_ANSWER_BYTES];
-    let response = program::respond(&input[..size], &mut out);
-    show(&mut rt.stdout(), &out, response.size)
+    let answered = program::respond(reading::front_of(&input, size), &mut out).unwrap_or(0);
+    rt.stdout().write_all(reading::front_of(&out, answered))
 }
