@@ -1,6 +1,7 @@
 // Judges stored claims by the proved checker, asked in both of its ways, and compares its verdicts with the stored one.
 use answers::ANSWER_BYTES;
-use claims::Verdict;
+use error::Refusal;
+use reading::{byte_at, front_of, rest_of};
 use record::RECORD_BYTES;
 use std::io;
 
@@ -13,22 +14,17 @@ const MOST_CLAIM_BYTES: usize = program::MAX_ANSWER_BYTES + ANSWER_BYTES;
 // No digit follows a larger number than this.
 const LARGE_NUMBER: u32 = 100000;
 
-// A stored verdict: accepted, the record that differs, or the number of the code.
-#[derive(Clone, Copy)]
-enum Stored {
-    Accepted,
-    Differs(u32),
-    Refused(i32),
-}
+// A stored verdict: the lowest record that differs, if one does, or the number of the code.
+type Stored = Result<Option<u32>, i32>;
 
 // The first word of a text.
 fn word(text: &[u8]) -> &[u8] {
-    crate::front_of(text, crate::find(text, 0, b' '))
+    crate::split_once(text, b' ').0
 }
 
 // What stands behind the first word and its space.
 fn behind(text: &[u8]) -> &[u8] {
-    crate::rest_of(text, crate::find(text, 0, b' ') + 1)
+    crate::split_once(text, b' ').1.unwrap_or(&[])
 }
 
 // Whether a text is the sign for no bytes.
@@ -58,22 +54,22 @@ fn number_of(text: &[u8]) -> Option<u32> {
 
 // A verdict that names a record.
 fn differs(number: &[u8]) -> Option<Stored> {
-    Some(Stored::Differs(number_of(number)?))
+    Some(Ok(Some(number_of(number)?)))
 }
 
 // A verdict that names a code, by its number with the minus sign. The number is made in two's complement.
 fn refused(number: &[u8]) -> Option<Stored> {
-    if crate::byte_at(number, 0) != b'-' {
+    if byte_at(number, 0) != b'-' {
         return None;
     }
-    let size = number_of(crate::rest_of(number, 1))?;
-    Some(Stored::Refused(high_first::signed(0u32.wrapping_sub(size))))
+    let size = number_of(rest_of(number, 1))?;
+    Some(Err(high_first::signed(0u32.wrapping_sub(size))))
 }
 
 // What the words of a verdict say.
 fn stored_verdict(text: &[u8]) -> Option<Stored> {
     if text == b"accepted".as_slice() {
-        return Some(Stored::Accepted);
+        return Some(Ok(None));
     }
     if word(text) == b"differs".as_slice() {
         return differs(behind(text));
@@ -85,27 +81,16 @@ fn stored_verdict(text: &[u8]) -> Option<Stored> {
 }
 
 // Whether a verdict is the stored one.
-fn agrees(found: Verdict, stored: Stored) -> bool {
-    match (found, stored) {
-        (Verdict::Right, Stored::Accepted) => true,
-        (Verdict::Differs(record), Stored::Differs(expected)) => record == expected,
-        (Verdict::Refused(code), Stored::Refused(expected)) => error::number(code) == expected,
-        _ => false,
-    }
+fn agrees(found: Result<Option<u32>, Refusal>, stored: Stored) -> bool {
+    found.map_err(i32::from) == stored
 }
 
 // Whether the checker has the stored verdict on a claim, asked with the whole input and, if there is a setup byte, with that and the log.
 fn as_expected(input: &[u8], claim: &[u8], stored: Stored) -> bool {
-    if !agrees(claims::check_input(input, claim), stored) {
-        return false;
-    }
-    if input.is_empty() {
-        return true;
-    }
-    agrees(
-        claims::check(input[0], crate::rest_of(input, 1), claim),
-        stored,
-    )
+    agrees(claims::check_input(input, claim), stored)
+        && input.split_first().is_none_or(|(setup, log)| {
+            agrees(claims::check(*setup, log, claim), stored)
+        })
 }
 
 // Whether the texts are those of a setup byte and a log, or of nothing at all.
@@ -141,8 +126,8 @@ fn compare(
     crate::verdict(
         rt,
         as_expected(
-            crate::front_of(&input, n),
-            crate::front_of(&claimed, k),
+            front_of(&input, n),
+            front_of(&claimed, k),
             stored,
         ),
     )

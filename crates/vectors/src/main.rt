@@ -6,10 +6,11 @@
 mod checks;
 mod pieces;
 
-ghost use Rattle.std.specs.Prelude.{◌+◌, ◌*◌, ◌<◌, ◌≤◌, length};
+ghost use Rattle.std.specs.Prelude.{◌*◌, ◌+◌, ◌≤◌, ◌<◌, length};
 
+use reading::{byte_at, front_of, rest_of, word_at};
 use std::fs::File;
-use std::io::{self, Read, Write};
+use std::io::{self, Write};
 use std::rt::Files;
 
 // The room for an input ends one byte behind the longest one.
@@ -18,29 +19,16 @@ const INPUT_ROOM_BYTES: usize = program::MAX_INPUT_BYTES + 1;
 // As much of a stored file as is read.
 const MAX_FILE_BYTES: usize = 300000;
 
-// What the lines of a file are: inputs of the program, calls, or claims with the verdict on them.
-#[derive(Clone, Copy)]
-enum Lines {
-    Logs,
-    Calls,
-    Checks,
-}
-
 fn put(rt: &impl Print, text: &[u8]) -> io::Result<()> {
     io::writer(rt).write_all(text)
 }
 
-// The first place from `from` on that has the byte, or the end.
-fn find(s: &[u8], from: usize, byte: u8) -> usize
-    requires { from ≤ length s.now }
-    ensures { (from ≤ result) × (result ≤ length s.now) }
-{
-    for i in from..s.len() {
-        if s[i] == byte {
-            return i;
-        }
+// What stands before the first byte of this kind, and what stands behind it, if it is there.
+fn split_once(text: &[u8], byte: u8) -> (&[u8], Option<&[u8]>) {
+    match text.iter().position(|b| *b == byte) {
+        Some(at) => (front_of(text, at), text.get(at + 1..)),
+        None => (text, None),
     }
-    s.len()
 }
 
 // A hexadecimal digit; anything else counts as 0.
@@ -54,28 +42,12 @@ fn digit(glyph: u8) -> u8
     }
 }
 
-// The byte that two digits spell.
-fn pair(text: &[u8], i: usize) -> u8
-    requires { i * 2 + 2 ≤ length text.now }
-{
-    let at = i * 2;
-    digit(text[at]) * 16 + digit(text[at + 1])
-}
-
-// Stores a byte, where there is room for it.
-fn place(room: &mut [u8], i: usize, byte: u8) {
-    if i < room.len() {
-        room[i] = byte;
-    }
-}
-
 // Decodes hexadecimal text into the room, as far as it reaches, and says how many bytes that is.
 fn unhex(text: &[u8], room: &mut [u8]) -> usize {
-    let count = text.len() / 2;
-    for i in 0..count {
-        place(room, i, pair(text, i));
+    for (byte, pair) in room.iter_mut().zip(text.chunks_exact(2)) {
+        *byte = digit(pair[0]) * 16 + digit(pair[1]);
     }
-    count.min(room.len())
+    (text.len() / 2).min(room.len())
 }
 
 fn verdict(rt: &impl Print, same: bool) -> io::Result<()> {
@@ -86,50 +58,18 @@ fn verdict(rt: &impl Print, same: bool) -> io::Result<()> {
     }
 }
 
-// Whether the first bytes are those that are expected, and as many.
-fn agree(out: &[u8], size: usize, expected: &[u8]) -> bool {
-    size == expected.len() && size <= out.len() && &out[..size] == expected
-}
-
-// Answers an input, and compares with what is expected.
-fn compare(rt: &impl Print, input: &[u8], expected: &[u8]) -> io::Result<()> {
+// Whether an input has the answers that are expected.
+fn answers_agree(input: &[u8], expected: &[u8]) -> bool {
     let mut out = [0u8; program::MAX_ANSWER_BYTES];
-    let response = program::respond(input, &mut out);
-    verdict(rt, agree(&out, response.size, expected))
-}
-
-// The byte at a place, or 0.
-fn byte_at(s: &[u8], i: usize) -> u8 {
-    if i < s.len() { s[i] } else { 0 }
-}
-
-// Four bytes from a place on, high byte first.
-fn word_at(s: &[u8], at: usize) -> u32
-    requires { at < 1000 }
-{
-    high_first::join(
-        byte_at(s, at),
-        byte_at(s, at + 1),
-        byte_at(s, at + 2),
-        byte_at(s, at + 3),
-    )
+    let size = program::respond(input, &mut out).unwrap_or(0);
+    front_of(&out, size) == expected
 }
 
 // Eight bytes.
 fn long_at(s: &[u8], at: usize) -> u64
-    requires { at < 900 }
+    requires { at < 1000 }
 {
-    word_at(s, at) as u64 * 0x1_0000_0000 + word_at(s, at + 4) as u64
-}
-
-// The bytes up to a place, or all.
-fn front_of(s: &[u8], end: usize) -> &[u8] {
-    if end <= s.len() { &s[..end] } else { s }
-}
-
-// The bytes from a place on, or none.
-fn rest_of(s: &[u8], at: usize) -> &[u8] {
-    if at <= s.len() { &s[at..] } else { &s[..0] }
+    u64::from(word_at(s, at)) * 0x1_0000_0000 + u64::from(word_at(s, at + 4))
 }
 
 // The exported call that an input asks for: its number, the length of its room, its arguments at their width. A flag that is not there is 0.
@@ -159,32 +99,14 @@ fn called(input: &[u8], room: &mut [u8]) -> i32 {
     }
 }
 
-// Makes a call, and compares its code and the whole room with what is expected.
-fn compare_call(rt: &impl Print, input: &[u8], expected: &[u8]) -> io::Result<()> {
+// Whether a call has the code and leaves the whole room that are expected.
+fn call_agrees(input: &[u8], expected: &[u8]) -> bool {
     let mut room = [0x55u8; 12];
-    let len = byte_at(input, 1) as usize;
-    if len > room.len() {
-        return verdict(rt, false);
-    }
-    let code = called(input, &mut room[..len]);
-    let same = code == high_first::signed(word_at(expected, 0));
-    verdict(rt, same && room.as_slice() == rest_of(expected, 4))
-}
-
-// Answers an input of the program or makes a call, and compares.
-fn judge(rt: &impl Print, calls: bool, input: &[u8], expected: &[u8]) -> io::Result<()> {
-    if calls {
-        compare_call(rt, input, expected)
-    } else {
-        compare(rt, input, expected)
-    }
-}
-
-// The log of an input once more, in pieces.
-fn in_pieces(rt: &impl Print, name: &[u8], input: &[u8], expected: &[u8]) -> io::Result<()> {
-    put(rt, name)?;
-    print!(rt; " in pieces")?;
-    verdict(rt, pieces::as_expected(input, expected))
+    let Some(lent) = room.get_mut(..byte_at(input, 1) as usize) else {
+        return false;
+    };
+    let code = called(input, lent);
+    code == high_first::signed(word_at(expected, 0)) && room.as_slice() == rest_of(expected, 4)
 }
 
 // What is said of a line that can't be read.
@@ -192,80 +114,76 @@ fn not_a_case(rt: &impl Print) -> io::Result<()> {
     println!(rt; ": not a case")
 }
 
-// One line: a name, an input and its answers.
-fn answered(rt: &impl Print, line: &[u8], calls: bool) -> io::Result<()> {
-    let name_end = find(line, 0, b' ');
-    let name = front_of(line, name_end);
-    put(rt, name)?;
-    if name_end == line.len() {
-        return not_a_case(rt);
-    }
-    let input_start = name_end + 1;
-    let input_end = find(line, input_start, b' ');
-    if input_end == line.len() {
-        return not_a_case(rt);
-    }
-    let mut input_room = [0u8; INPUT_ROOM_BYTES];
-    let input_size = unhex(&line[input_start..input_end], &mut input_room);
-    let input = front_of(&input_room, input_size);
-    let mut expected_room = [0u8; program::MAX_ANSWER_BYTES];
-    let expected_size = unhex(rest_of(line, input_end + 1), &mut expected_room);
-    let expected = front_of(&expected_room, expected_size);
-    judge(rt, calls, input, expected)?;
-    if !calls {
-        in_pieces(rt, name, input, expected)?;
-    }
-    Ok(())
-}
-
-// One line of a file.
-fn case(rt: &impl Print, line: &[u8], lines: Lines) -> io::Result<()> {
-    match lines {
-        Lines::Logs => answered(rt, line, false),
-        Lines::Calls => answered(rt, line, true),
-        Lines::Checks => checks::case(rt, line),
-    }
-}
-
-fn cases(rt: &impl Print, text: &[u8], lines: Lines) -> io::Result<()> {
-    let mut at = 0;
-    while at < text.len() {
-        let end = find(text, at, b'\n');
-        case(rt, &text[at..end], lines)?;
-        at = end + 1;
-    }
-    Ok(())
-}
-
-// Reads until the room is full or the input ends, and says how many bytes stand over the front of the room. A read that fails counts as the end.
-fn read_input<R: Read>(input: &mut R, room: &mut [u8]) -> usize
-    ensures { result ≤ length room.new }
+// One line: a name, an input and its answers, which `judge` compares.
+fn case<J: FnOnce(&[u8], &[u8]) -> io::Result<()>>(
+    rt: &impl Print,
+    line: &[u8],
+    judge: J,
+) -> io::Result<()>
+    requires { J.IsAlwaysCallable judge }
 {
-    let mut size = 0;
-    while size < room.len() {
-        let more = input.read(&mut room[size..]).unwrap_or(0);
-        if more == 0 {
-            break;
-        }
-        size += more;
-    }
-    size
+    let (name, rest) = split_once(line, b' ');
+    put(rt, name)?;
+    let Some(rest) = rest else {
+        return not_a_case(rt);
+    };
+    let (input, Some(expected)) = split_once(rest, b' ') else {
+        return not_a_case(rt);
+    };
+    let mut input_room = [0u8; INPUT_ROOM_BYTES];
+    let input_size = unhex(input, &mut input_room);
+    let mut expected_room = [0u8; program::MAX_ANSWER_BYTES];
+    let expected_size = unhex(expected, &mut expected_room);
+    judge(
+        front_of(&input_room, input_size),
+        front_of(&expected_room, expected_size),
+    )
 }
 
-// Every line of a stored file. One that can't be opened is named on standard error, and the others are replayed.
-fn replay(rt: &(impl Files + Print + Eprint), path: &str, lines: Lines) -> io::Result<()> {
+// A line with an input of the program: it is answered, and then once more in pieces.
+fn log(rt: &impl Print, line: &[u8]) -> io::Result<()> {
+    let (name, _) = split_once(line, b' ');
+    case(rt, line, |input, expected| {
+        verdict(rt, answers_agree(input, expected))?;
+        put(rt, name)?;
+        print!(rt; " in pieces")?;
+        verdict(rt, pieces::as_expected(input, expected))
+    })
+}
+
+// A line with a call.
+fn call(rt: &impl Print, line: &[u8]) -> io::Result<()> {
+    case(rt, line, |input, expected| {
+        verdict(rt, call_agrees(input, expected))
+    })
+}
+
+// Every line of a stored file, by `case`. A file that can't be opened is named on standard error, and the others are replayed.
+fn replay<C: Fn(&[u8]) -> io::Result<()>>(
+    rt: &(impl Files + Eprint),
+    path: &str,
+    case: C,
+) -> io::Result<()>
+    requires { C.IsAlwaysCallable case }
+{
     let mut file = match File::open(rt, path) {
         Ok(file) => file,
         Err(error) => return eprintln!(rt; "{path}: {error}"),
     };
     let mut text = [0u8; MAX_FILE_BYTES];
-    let size = read_input(&mut file, &mut text);
-    cases(rt, &text[..size], lines)
+    let size = reading::fill(&mut file, &mut text).unwrap_or_else(|failed| failed.size);
+    let mut rest = front_of(&text, size);
+    while !rest.is_empty() {
+        let (line, more) = split_once(rest, b'\n');
+        case(line)?;
+        rest = more.unwrap_or(&[]);
+    }
+    Ok(())
 }
 
 fn main(rt: HostRuntime) -> io::Result<()> {
-    replay(&rt, "logs-after-06.txt", Lines::Logs)?;
-    replay(&rt, "calls-01.txt", Lines::Calls)?;
-    replay(&rt, "checks-08.txt", Lines::Checks)?;
-    replay(&rt, "checks-own.txt", Lines::Checks)
+    replay(&rt, "logs-after-06.txt", |line| log(&rt, line))?;
+    replay(&rt, "calls-01.txt", |line| call(&rt, line))?;
+    replay(&rt, "checks-08.txt", |line| checks::case(&rt, line))?;
+    replay(&rt, "checks-own.txt", |line| checks::case(&rt, line))
 }

@@ -2,8 +2,9 @@
 ghost use Rattle.std.specs.Prelude.{◌≤◌};
 
 use answers::ANSWER_BYTES;
-use error::Code;
+use error::Refusal;
 use machine::Machine;
+use reading::{front_of, rest_of};
 use record::RECORD_BYTES;
 
 // A log of at most so many records is cut in two at every place.
@@ -32,14 +33,6 @@ struct Cuts {
     fixed: usize,
     spread: u32,
     seed: u32,
-}
-
-// What came of a log in fragments: whether every byte of it was taken, how many bytes of answers were written, and the code's number at the end.
-#[derive(Clone, Copy)]
-struct Outcome {
-    whole: bool,
-    size: usize,
-    code: i32,
 }
 
 // The next number of a fixed sequence, below 2^31.
@@ -80,41 +73,36 @@ fn goes_on(at: usize, end: usize, pieces: u32) -> bool {
     at < end || pieces < 2
 }
 
-// Feeds a log that is cut in one way, its answers one after the other into the room.
-fn feed_cut(m: Machine, log: &[u8], cuts: Cuts, out: &mut [u8]) -> Outcome {
-    let started = feed::start(m);
-    let mut form = started.form;
-    let mut code = started.code;
+// Feeds a log that is cut in one way, its answers one after the other into the room. Says how many bytes of answers were written and how the log ended,
+// unless a fragment was refused or the log was not taken whole.
+fn feed_cut(m: Machine, log: &[u8], cuts: Cuts, out: &mut [u8]) -> Option<(usize, Result<(), Refusal>)> {
+    let mut form = feed::start(m).ok()?;
     let mut at = 0;
     let mut done = 0;
     let mut size = cuts.first;
     let mut seed = cuts.seed;
-    let mut pieces = 0;
-    while pieces < MAX_PIECES && error::is_ok(code) && goes_on(at, log.len(), pieces) {
+    for pieces in 0..MAX_PIECES {
+        if !goes_on(at, log.len(), pieces) {
+            break;
+        }
         let end = onward(at, size, log.len());
-        let fed = feed::feed(form, &log[at..end], &mut out[done..]);
-        code = fed.code;
-        form = fed.form;
-        done = onward(done, fed.records as usize * ANSWER_BYTES, out.len());
+        let records = feed::feed(&mut form, &log[at..end], &mut out[done..]).ok()?;
+        done = onward(done, records as usize * ANSWER_BYTES, out.len());
         at = end;
         seed = next(seed);
         size = size_after(cuts.fixed, cuts.spread, seed);
-        pieces += 1;
     }
-    let ended = feed::finish(form);
-    let last = ended.code;
-    Outcome {
-        whole: error::is_ok(code) && at == log.len(),
-        size: done,
-        code: error::number(last),
+    if at < log.len() {
+        return None;
     }
+    Some((done, feed::finish(&form)))
 }
 
-// Whether a log that is cut in one way has the answers and the code that are expected.
-fn agrees(m: Machine, log: &[u8], cuts: Cuts, expected: &[u8], code: i32) -> bool {
+// Whether a log that is cut in one way has the answers and the end that are expected.
+fn agrees(m: Machine, log: &[u8], cuts: Cuts, expected: &[u8], end: Result<(), Refusal>) -> bool {
     let mut out = [0u8; program::MAX_ANSWER_BYTES];
-    let outcome = feed_cut(m, log, cuts, &mut out);
-    outcome.whole && outcome.code == code && crate::agree(&out, outcome.size, expected)
+    feed_cut(m, log, cuts, &mut out) == Some((expected.len(), end))
+        && front_of(&out, expected.len()) == expected
 }
 
 // A spread up to the size of a log.
@@ -126,62 +114,53 @@ fn large(size: usize) -> u32 {
 }
 
 // Cut in two at every place.
-fn in_two(m: Machine, log: &[u8], expected: &[u8], code: i32) -> bool {
-    for first in 0..=log.len() {
+fn in_two(m: Machine, log: &[u8], expected: &[u8], end: Result<(), Refusal>) -> bool {
+    (0..=log.len()).all(|first| {
         let cuts = Cuts {
             first,
             fixed: log.len(),
             spread: 0,
             seed: 0,
         };
-        if !agrees(m, log, cuts, expected, code) {
-            return false;
-        }
-    }
-    true
+        agrees(m, log, cuts, expected, end)
+    })
 }
 
 // Cut at random places, in several rounds.
-fn at_random(m: Machine, log: &[u8], spread: u32, expected: &[u8], code: i32) -> bool {
-    for seed in 0..ROUNDS {
+fn at_random(m: Machine, log: &[u8], spread: u32, expected: &[u8], end: Result<(), Refusal>) -> bool {
+    (0..ROUNDS).all(|seed| {
         let cuts = Cuts {
             first: seed as usize,
             fixed: 0,
             spread,
             seed,
         };
-        if !agrees(m, log, cuts, expected, code) {
-            return false;
-        }
-    }
-    true
+        agrees(m, log, cuts, expected, end)
+    })
 }
 
 // Cut in every way: byte by byte, in random fragments of a few hundred bytes at most, and then a short log in two and a longer one in large
 // random fragments.
-fn every_way(m: Machine, log: &[u8], expected: &[u8], code: i32) -> bool {
+fn every_way(m: Machine, log: &[u8], expected: &[u8], end: Result<(), Refusal>) -> bool {
     let single = Cuts {
         first: 1,
         fixed: 1,
         spread: 0,
         seed: 0,
     };
-    if !agrees(m, log, single, expected, code) {
-        return false;
-    }
-    if !at_random(m, log, MOST_BYTES, expected, code) {
+    if !agrees(m, log, single, expected, end) || !at_random(m, log, MOST_BYTES, expected, end) {
         return false;
     }
     if log.len() / RECORD_BYTES <= SHORT_RECORDS {
-        return in_two(m, log, expected, code);
+        return in_two(m, log, expected, end);
     }
-    at_random(m, log, large(log.len()), expected, code)
+    at_random(m, log, large(log.len()), expected, end)
 }
 
-// Whether one answer with a code is what is expected.
-fn refused(code: Code, expected: &[u8]) -> bool {
+// Whether one answer with a refusal is what is expected.
+fn refused(why: Refusal, expected: &[u8]) -> bool {
     let mut out = [0u8; ANSWER_BYTES];
-    answers::put_answer(&mut out, code, 0);
+    let _ = answers::put_answer(&mut out, Err(why), 0);
     out.as_slice() == expected
 }
 
@@ -189,25 +168,22 @@ fn refused(code: Code, expected: &[u8]) -> bool {
 // long for the program is one of these too, since the room for an input ends one byte behind its 2,048th record.
 fn cut_off(m: Machine, input: &[u8], whole: usize) -> bool {
     let mut out = [0u8; program::MAX_ANSWER_BYTES];
-    let response = program::respond(crate::front_of(input, whole), &mut out);
-    let answers = crate::front_of(&out, response.size);
-    every_way(m, crate::rest_of(input, 1), answers, error::EINVAL)
+    let size = program::respond(front_of(input, whole), &mut out).unwrap_or(0);
+    every_way(m, rest_of(input, 1), front_of(&out, size), Err(Refusal::Einval))
 }
 
 // Whether an input in fragments has the answers that are expected of it whole. A setup byte that is missing or bad is refused before any feed.
 pub(crate) fn as_expected(input: &[u8], expected: &[u8]) -> bool {
-    if input.is_empty() {
-        return refused(Code::Einval, expected);
-    }
-    let made = machine::from_setup_byte(input[0]);
-    let code = made.code;
-    if !error::is_ok(code) {
-        return refused(code, expected);
-    }
-    let m = made.machine;
-    let left = (input.len() - 1) % RECORD_BYTES;
+    let Some((setup, log)) = input.split_first() else {
+        return refused(Refusal::Einval, expected);
+    };
+    let m = match machine::from_setup_byte(*setup) {
+        Ok(m) => m,
+        Err(why) => return refused(why, expected),
+    };
+    let left = log.len() % RECORD_BYTES;
     if left == 0 {
-        return every_way(m, crate::rest_of(input, 1), expected, error::OK);
+        return every_way(m, log, expected, Ok(()));
     }
     cut_off(m, input, input.len() - left)
 }
