@@ -43,7 +43,8 @@ pub enum ThreadOperation {
     Priority(i32),
 }
 
-// What a record asks for: the operations in families, by what they change.
+// What a record asks for: the operations in families, by what they change. What fails the form test is a case here, and no `Option` of a request,
+// since the definition `request_of` gives it a request too.
 #[derive(Clone, Copy, Debug, PartialEq, Eq)]
 pub enum Operation {
     Malformed,
@@ -192,8 +193,8 @@ impl Operand {
     }
 }
 
-// Whether the fields that an operation uses are in range, and all else zero. Joined by `&`: by `&&` a test is a branch, which was tried, and of
-// 2 ns more for a record of take, priority or ipi misses the bar of speed.
+// Whether the fields that an operation uses are in range, and all else zero. The tests are joined by `&`: by `&&` each is a branch, and a wide log
+// of interrupts misses its bar of speed (1.54 times the baseline, for 1.5; by `&` 1.37).
 #[tactic(auto, unfolding(crate::specs::Record::fits))]
 fn fits(n: u32, row: Row, f: Fields) -> bool
     ensures { result ≡ Record·fits n (form_of row) f }
