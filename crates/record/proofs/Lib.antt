@@ -1,4 +1,5 @@
 pub mod Table
+pub mod Columns
 pub mod Cases
 pub mod Range
 pub mod Laws
