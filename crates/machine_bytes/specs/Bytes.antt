@@ -1,13 +1,12 @@
 -- A machine as 2,950 bytes, numbers high byte first: setup 6, then 16 CPUs of 14, 32 threads of 13 and 128 locks of 18.
-use Rattle.std.specs.Prelude.{ℕ, zero, suc, ◌+◌, Bool, true, false, cond, List, [], ◌∷◌, ◌++◌, eqb, ltb, ℤ, length, get_or, drop}
+use Rattle.machine.specs.declared.ThreadId.{ThreadId}
+use Rattle.machine.specs.declared.CpuId.{CpuId}
+use Rattle.std.specs.Prelude.{ℕ, zero, suc, ◌+◌, Bool, true, false, cond, List, [], ◌∷◌, ◌++◌, eqb, ltb, ℤ, length, get_or, drop, Option, None, Some}
 use Rattle.error.specs.Codes.{OK, ENOMEM}
 use Rattle.error.specs.Answer.{Answer, answer}
 use Rattle.words.specs.HighFirst.{high_first, from_high_first}
 use Rattle.words.specs.Signed.{to_signed, from_signed}
-use Rattle.spinlock.specs.declared.Owner.{Owner}
 use Rattle.machine.specs.State.{cpu_slots, thread_count, lock_count, not_made}
-use Rattle.machine.specs.declared.Current.{Current}
-use Rattle.machine.specs.declared.Place.{Place}
 use Rattle.machine.specs.declared.Setup.{Setup}
 use Rattle.machine.specs.declared.Cpu.{Cpu}
 use Rattle.machine.specs.declared.Thread.{Thread}
@@ -67,31 +66,31 @@ abbrev pub missing : Tag
 missing = record { present = false; number = 0 }
 
 -- The thread that a CPU runs, as what may be missing.
-abbrev pub tag_of_current : Current → Tag
-tag_of_current Current.None = missing
-tag_of_current (Current.Thread t) = record { present = true; number = t.0 }
+abbrev pub tag_of_current : Option ThreadId → Tag
+tag_of_current None = missing
+tag_of_current (Some t) = record { present = true; number = t.0 }
 
 -- The thread that a CPU runs. The number of what is missing is ignored.
-abbrev pub current_of : Tag → Current
-current_of t = cond t.present (Current.Thread (record { 0 = t.number })) Current.None
+abbrev pub current_of : Tag → Option ThreadId
+current_of t = cond t.present (Some (record { 0 = t.number })) None
 
 -- The CPU on which a thread runs, as what may be missing.
-abbrev pub tag_of_place : Place → Tag
-tag_of_place Place.Nowhere = missing
-tag_of_place (Place.On c) = record { present = true; number = c.0 }
+abbrev pub tag_of_place : Option CpuId → Tag
+tag_of_place None = missing
+tag_of_place (Some c) = record { present = true; number = c.0 }
 
 -- The CPU on which a thread runs. The number of what is missing is ignored.
-abbrev pub place_of : Tag → Place
-place_of t = cond t.present (Place.On (record { 0 = t.number })) Place.Nowhere
+abbrev pub place_of : Tag → Option CpuId
+place_of t = cond t.present (Some (record { 0 = t.number })) None
 
 -- The thread that holds a lock, as what may be missing.
-abbrev pub tag_of_owner : Owner → Tag
-tag_of_owner Owner.None = missing
-tag_of_owner (Owner.Thread t) = record { present = true; number = t }
+abbrev pub tag_of_owner : Option ℕ → Tag
+tag_of_owner None = missing
+tag_of_owner (Some t) = record { present = true; number = t }
 
 -- The thread that holds a lock. The number of what is missing is ignored.
-abbrev pub owner_of : Tag → Owner
-owner_of t = cond t.present (Owner.Thread t.number) Owner.None
+abbrev pub owner_of : Tag → Option ℕ
+owner_of t = cond t.present (Some t.number) None
 
 -- Setup, 6 bytes: n 4, pin-only 1, wide 1.
 unfoldable pub setup_bytes : Setup → List ℕ

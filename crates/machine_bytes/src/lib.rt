@@ -10,8 +10,9 @@
 ghost use Rattle.std.specs.Prelude.{◌≡◌, List, ◌++◌, ℕ, ◌≤◌, length, drop};
 ghost use Rattle.std.proofs.lemmas.List.Edits.{sets};
 ghost use Rattle.error.specs.Codes.{number_of};
+ghost use Rattle.error.specs.Answer.{says};
 ghost use Rattle.high_first.specs.Place.{placed};
-ghost use Rattle.machine.specs.State.{cpu_slots, thread_count, lock_count, made_says};
+ghost use Rattle.machine.specs.State.{cpu_slots, thread_count, lock_count, least_machine};
 ghost use Rattle.machine_bytes.specs.Bytes.{
   machine_size,
   cpu_bytes,
@@ -29,8 +30,8 @@ ghost use Rattle.machine_bytes.specs.Bytes.{
 };
 
 use elements::{CPU_BYTES, LOCK_BYTES, THREAD_BYTES};
-use error::Code;
-use machine::{CPU_SLOTS, Cpu, LOCKS, Lock, Machine, Made, THREADS, Thread};
+use error::Refusal;
+use machine::{CPU_SLOTS, Cpu, LOCKS, Lock, Machine, THREADS, Thread};
 
 mod elements;
 mod fields;
@@ -44,9 +45,6 @@ const CPUS_AT: usize = 6;
 const THREADS_AT: usize = 230;
 
 const LOCKS_AT: usize = 646;
-
-// A setup byte that no machine has.
-const NO_SETUP: u8 = 1;
 
 // The CPUs in the bytes of a machine.
 fn cpus_of(bytes: &[u8]) -> [Cpu; CPU_SLOTS]
@@ -97,26 +95,22 @@ fn locks_of(bytes: &[u8]) -> [Lock; LOCKS]
 }
 
 // The machine in front of the bytes. Too few bytes are refused, with the fresh machine of n 1.
-pub fn machine_of(bytes: &[u8]) -> Made
-    ensures { made_says result ≡ reading bytes.now }
+pub fn machine_of(bytes: &[u8]) -> Result<Machine, Refusal>
+    ensures { says least_machine result ≡ reading bytes.now }
 {
     if bytes.len() < MACHINE_BYTES {
-        return machine::from_setup_byte(NO_SETUP);
+        return Err(Refusal::Einval);
     }
     let setup = elements::setup_of(bytes);
     let cpus = cpus_of(bytes);
     let threads = threads_of(bytes);
     let locks = locks_of(bytes);
-    let machine = Machine {
+    Ok(Machine {
         setup,
         cpus,
         threads,
         locks,
-    };
-    Made {
-        code: Code::Ok,
-        machine,
-    }
+    })
 }
 
 // The CPUs behind the setup. Every writer here also says that its bytes read back as what was written.
@@ -162,7 +156,7 @@ fn put_locks(out: &mut [u8], locks: [Lock; LOCKS])
 }
 
 // The machine's bytes over the front of the room. Bytes past them stay, and room too short for them stays as it was.
-pub fn put_machine(out: &mut [u8], m: Machine) -> Code
+pub fn put_machine(out: &mut [u8], m: Machine) -> Result<(), Refusal>
     ensures code { number_of result ≡ put_code (length out.old) }
     ensures room { out.new ≡ placed 0 (machine_bytes m) out.old }
     ensures size { length (machine_bytes m) ≡ machine_size }
@@ -170,7 +164,7 @@ pub fn put_machine(out: &mut [u8], m: Machine) -> Code
     ensures read { machine_size ≤ length out.old → machine_of out.new ≡ m }
 {
     if out.len() < MACHINE_BYTES {
-        return Code::Enomem;
+        return Err(Refusal::Enomem);
     }
     let setup = m.setup;
     let cpus = m.cpus;
@@ -180,5 +174,5 @@ pub fn put_machine(out: &mut [u8], m: Machine) -> Code
     put_cpus(out, cpus);
     put_threads(out, threads);
     put_locks(out, locks);
-    Code::Ok
+    Ok(())
 }
