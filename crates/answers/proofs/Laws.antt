@@ -1,13 +1,12 @@
--- Laws of answers: an answer's bytes as one number's, room with them or too short for them, and that an answer comes back from its bytes.
+-- Laws of answers: an answer's bytes as one number's, room with them in front, and that an answer comes back from its bytes.
 -- Assumes nothing.
 use mathlib.Core.Path.{◌≡◌, ap, ap₂, ◌∙◌}
-use mathlib.Core.List.{List, ◌++◌}
+use mathlib.Core.List.{List}
 use Prim.Native.Nat.{ℕ, ◌+◌, ◌-◌, ◌*◌, ◌^◌, ◌≤◌, ◌<◌}
 use native.Mathlib.Omega.{arith}
 use lib.IntN.{ℤ}
 use lib.ListN.{length}
-use borrow.Author.Tests.{lt-ltb, le-ltb}
-use Rattle.error.specs.Codes.{OK, ENOMEM}
+use borrow.Author.Tests.{le-ltb}
 use Rattle.error.specs.Answer.{answer}
 use Rattle.words.specs.HighFirst.{high_first}
 use Rattle.words.specs.Signed.{to_signed, from_signed, SignedFits}
@@ -15,7 +14,7 @@ use Rattle.words.proofs.HighFirst.{high_first_back, high_first_two}
 use Rattle.words.proofs.Signed.{from_signed_lt, to_from_signed}
 use Rattle.high_first.specs.Place.{placed}
 use Rattle.high_first.proofs.Placed.{in_front}
-use Rattle.answers.specs.Answer.{answer_bytes, decode_answer, written, put_code}
+use Rattle.answers.specs.Answer.{answer_bytes, decode_answer, written}
 
 -- Code and value are the bytes of one number: the greatest answer with the code, without what the value is short.
 pub as_one : (code : ℤ) (value greatest : ℕ) → value < 2 ^ 32 → greatest ≡ from_signed 31 code * 2 ^ 32 + 0xffff_ffff
@@ -25,18 +24,11 @@ as_one code value greatest fits e =
     let both : greatest - (0xffff_ffff - value) ≡ from_signed 31 code * 2 ^ 32 + value = omega (arith, fits, e) in
     ap (high_first 8) both ∙ high_first_two 4 (from_signed 31 code) value fits 4
 
-module _ (code : ℤ) (value : ℕ) (room : List ℕ) where
-  -- Room that is too short for an answer.
-  pub no_room : length room < 8 → (ENOMEM ≡ put_code (length room)) × (room ≡ written (answer_bytes code value) room)
-  unfolding written answer_bytes put_code
-  no_room short = let less = lt-ltb (length room) 8 short in (rw less, rw less)
-
-  -- Room that has an answer's bytes in front.
-  pub enough_room : 8 ≤ length room
-      → (OK ≡ put_code (length room)) × (placed 0 (answer_bytes code value) room ≡ written (answer_bytes code value) room)
-  unfolding written answer_bytes put_code
-  enough_room fits =
-      let enough = le-ltb (length room) 8 fits in (rw enough, in_front (answer_bytes code value) room fits ∙ rw enough)
+-- Room that has an answer's bytes in front.
+pub over_the_front : (code : ℤ) (value : ℕ) (room : List ℕ) → 8 ≤ length room
+    → placed 0 (answer_bytes code value) room ≡ written (answer_bytes code value) room
+unfolding written answer_bytes
+over_the_front code value room fits = in_front (answer_bytes code value) room fits ∙ rw (le-ltb (length room) 8 fits)
 
 -- An answer's bytes give its code back, whatever its value.
 pub code_back : (code : ℤ) (value : ℕ) → SignedFits 31 code → (decode_answer (answer_bytes code value)).code ≡ code

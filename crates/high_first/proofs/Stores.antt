@@ -7,7 +7,7 @@ use native.Mathlib.Nat.{add-zero, sub-zero, sub_self}
 use native.Mathlib.Omega.{arith}
 use lib.ListN.{length, set}
 use lib.Pow.{shr-shr}
-use lib.Seq.{set_comm, sets, sets-eq, length-sets}
+use lib.Seq.{set_comm, sets, sets-eq}
 use borrow.Author.Tests.{lt-leb, le-leb}
 use Rattle.words.specs.HighFirst.{high_first}
 use Rattle.words.proofs.HighFirst.{length_high_first}
@@ -35,9 +35,6 @@ module _ (room : List ℕ) (at count number : ℕ) where
 
   pub none_stored : (number ≡ unstored count) × (room ≡ stored count)
   none_stored = rw (sub_self count) (omega arith, refl)
-
-  pub length_stored : (left : ℕ) → length (stored left) ≡ length room
-  length_stored left = length-sets room (at + left) (high_first (count - left) number)
 
   pub next_stored : (left : ℕ) → 0 < left → left ≤ count
       → (unstored left / 256 ≡ unstored (left - 1)) × (set (stored left) (at + (left - 1)) (unstored left % 256) ≡ stored (left - 1))

@@ -8,24 +8,29 @@
 ghost use Rattle.std.specs.Prelude.{◌≡◌, [], ◌∷◌, length};
 ghost use Rattle.words.specs.HighFirst.{high_first, from_high_first};
 ghost use Rattle.words.specs.Signed.{to_signed};
-ghost use Rattle.high_first.specs.Place.{has_room, placed};
+ghost use Rattle.high_first.specs.Place.{has_room, placed, word_at};
 
 // Four bytes as a number, high byte first.
 pub fn join(a: u8, b: u8, c: u8, d: u8) -> u32
     ensures { result ≡ from_high_first (a ∷ b ∷ c ∷ d ∷ []) }
 {
-    (((a as u32) * 256 + (b as u32)) * 256 + (c as u32)) * 256 + (d as u32)
+    u32::from_be_bytes([a, b, c, d])
 }
 
 // The number that 32 bits stand for.
+#[tactic(auto, unfolding(words::specs::Signed::to_signed))]
 pub fn signed(bits: u32) -> i32
     ensures { result ≡ to_signed 31 bits }
 {
-    if bits < 0x8000_0000 {
-        bits as i32
-    } else {
-        -1 - ((0xffff_ffff - bits) as i32)
-    }
+    bits.cast_signed()
+}
+
+// The number in the four bytes from a place on; none where there are not four.
+pub fn word_at(bytes: &[u8], at: usize) -> Option<u32>
+    ensures { result ≡ word_at bytes.now «at» }
+{
+    let four = bytes.get(at..)?.first_chunk()?;
+    Some(u32::from_be_bytes(*four))
 }
 
 // The low bytes of a number, as many as asked for, from a place of the room on. Says whether there was room; else no byte changes.
@@ -33,18 +38,13 @@ pub fn put(out: &mut [u8], at: usize, count: usize, number: u64) -> bool
     ensures fits { result ≡ has_room «at» «count» (length out.old) }
     ensures room { out.new ≡ placed «at» (high_first «count» «number») out.old }
 {
-    if out.len() < at {
+    if out.len() < at || out.len() - at < count {
         return false;
     }
-    if out.len() - at < count {
-        return false;
-    }
-    let mut left = count;
     let mut rest = number;
-    while 0 < left {
-        left -= 1;
-        out[at + left] = (rest % 256) as u8;
-        rest = rest / 256;
+    for i in (0..count).rev() {
+        out[at + i] = (rest % 256) as u8;
+        rest /= 256;
     }
     true
 }

@@ -5,69 +5,81 @@
 
 #![tactic(auto)]
 
-ghost use Rattle.std.specs.Prelude.{◌≡◌, length};
-ghost use Rattle.error.specs.Codes.{number_of};
-ghost use Rattle.error.specs.Answer.{answer};
-ghost use Rattle.words.specs.HighFirst.{high_first};
+ghost use Rattle.std.specs.Prelude.{◌≡◌, ℕ, List, length};
+ghost use Rattle.error.specs.Answer.{says};
+ghost use Rattle.high_first.specs.Place.{has_room, placed};
 ghost use Rattle.lent_room.specs.Room.{
   word_bytes,
   mask_bytes,
   yes_no_bytes,
-  holder_bytes,
+  held_bytes,
+  as_bytes,
   call_code,
   call_room,
 };
 
-use error::Code;
+use error::Refusal;
+use spinlock_validate::Held;
 
-// The low bytes of a value, as many as asked for.
-fn put_value(out: &mut [u8], code: Code, count: usize, value: u64) -> i32
-    ensures code { result ≡ call_code (answer (number_of code) (high_first «count» «value»)) (length out.old) }
-    ensures room { out.new ≡ call_room (answer (number_of code) (high_first «count» «value»)) out.old }
-{
-    if !error::is_ok(code) {
-        return error::number(code);
-    }
-    if !high_first::put(out, 0, count, value) {
-        return error::ENOMEM;
-    }
-    error::OK
+// A kind of value that stands in lent room.
+pub trait Lent: Copy {
+    // The value in bytes.
+    ghost bytes: { Self → List ℕ };
+
+    // Its bytes over the front of the room. Says whether there was room; else no byte changes.
+    fn put_over(self, out: &mut [u8]) -> bool
+        ensures fits { result ≡ has_room 0 (length (bytes self)) (length out.old) }
+        ensures room { out.new ≡ placed 0 (bytes self) out.old };
 }
 
 // An owner word.
-pub fn put_word(out: &mut [u8], code: Code, word: u64) -> i32
-    ensures code { result ≡ call_code (answer (number_of code) (word_bytes word)) (length out.old) }
-    ensures room { out.new ≡ call_room (answer (number_of code) (word_bytes word)) out.old }
-{
-    put_value(out, code, 8, word)
+impl Lent for u64 {
+    ghost bytes = { word_bytes };
+
+    fn put_over(self, out: &mut [u8]) -> bool {
+        high_first::put(out, 0, 8, self)
+    }
 }
 
 // A mask.
-pub fn put_mask(out: &mut [u8], code: Code, mask: u32) -> i32
-    ensures code { result ≡ call_code (answer (number_of code) (mask_bytes mask)) (length out.old) }
-    ensures room { out.new ≡ call_room (answer (number_of code) (mask_bytes mask)) out.old }
-{
-    put_value(out, code, 4, mask as u64)
+impl Lent for u32 {
+    ghost bytes = { mask_bytes };
+
+    fn put_over(self, out: &mut [u8]) -> bool {
+        high_first::put(out, 0, 4, self as u64)
+    }
 }
 
 // A yes or no.
-pub fn put_yes_no(out: &mut [u8], code: Code, holds: bool) -> i32
-    ensures code { result ≡ call_code (answer (number_of code) (yes_no_bytes holds)) (length out.old) }
-    ensures room { out.new ≡ call_room (answer (number_of code) (yes_no_bytes holds)) out.old }
-{
-    put_value(out, code, 1, holds as u64)
+impl Lent for bool {
+    ghost bytes = { yes_no_bytes };
+
+    fn put_over(self, out: &mut [u8]) -> bool {
+        high_first::put(out, 0, 1, self as u64)
+    }
 }
 
-// A thread and its CPU. The CPU stands last and is written first: where it finds room, so does the thread.
-pub fn put_holder(out: &mut [u8], code: Code, thread: u64, cpu: u32) -> i32
-    ensures code { result ≡ call_code (answer (number_of code) (holder_bytes thread cpu)) (length out.old) }
-    ensures room { out.new ≡ call_room (answer (number_of code) (holder_bytes thread cpu)) out.old }
-{
-    if !error::is_ok(code) {
-        return error::number(code);
+// A thread and its CPU, both 0 for a free lock. The CPU stands last and is written first: where it finds room, so does the thread.
+impl Lent for Option<Held> {
+    ghost bytes = { held_bytes };
+
+    fn put_over(self, out: &mut [u8]) -> bool {
+        let held = self.unwrap_or(Held { thread: 0, cpu: 0 });
+        high_first::put(out, 8, 1, held.cpu as u64) && high_first::put(out, 0, 8, held.thread)
     }
-    if !high_first::put(out, 8, 1, cpu as u64) {
+}
+
+// The code of an answer, and on OK its value over the front of the room. Whatever value a refusing call is said to have, none is written.
+pub fn put<V: Lent>(out: &mut [u8], answer: Result<V, Refusal>) -> i32
+    ensures code { (refused : V) → result ≡ call_code (as_bytes V.bytes (says refused answer)) (length out.old) }
+    ensures room { (refused : V) → out.new ≡ call_room (as_bytes V.bytes (says refused answer)) out.old }
+{
+    let value = match answer {
+        Ok(value) => value,
+        Err(why) => return i32::from(why),
+    };
+    if !value.put_over(out) {
         return error::ENOMEM;
     }
-    put_value(out, code, 8, thread)
+    error::OK
 }

@@ -12,7 +12,7 @@ ghost use Rattle.log_tests.specs.RunCode.{run_code};
 ghost use Rattle.log_tests.specs.FeedCode.{feed_code};
 
 use answers::ANSWER_BYTES;
-use error::Code;
+use error::Refusal;
 use record::RECORD_BYTES;
 
 // The longest log, 2,048 records.
@@ -22,38 +22,39 @@ pub const MAX_LOG_BYTES: usize = 24576;
 pub const MAX_PENDING: u32 = 11;
 
 // The code of a run: of a machine that is well-formed or not, a log of this size and room of this size.
-pub fn run_code(formed: bool, size: usize, room: usize) -> Code
+#[tactic(auto, unfolding(crate::specs::RunCode::run_code))]
+pub fn run_code(formed: bool, size: usize, room: usize) -> Result<(), Refusal>
     ensures { number_of result ≡ run_code formed size room }
 {
     if !formed {
-        return Code::Einval;
+        return Err(Refusal::Einval);
     }
     if size > MAX_LOG_BYTES {
-        return Code::Eoverflow;
+        return Err(Refusal::Eoverflow);
     }
     if size % RECORD_BYTES != 0 {
-        return Code::Einval;
+        return Err(Refusal::Einval);
     }
     if room < size / RECORD_BYTES * ANSWER_BYTES {
-        return Code::Enomem;
+        return Err(Refusal::Enomem);
     }
-    Code::Ok
+    Ok(())
 }
 
 // The code of a feed: of a machine that is well-formed or not, with so many bytes pending, a fragment of this size and room of this size.
-pub fn feed_code(formed: bool, pending: u32, size: usize, room: usize) -> Code
+#[tactic(auto, unfolding(crate::specs::FeedCode::feed_code))]
+pub fn feed_code(formed: bool, pending: u32, size: usize, room: usize) -> Result<(), Refusal>
     ensures { number_of result ≡ feed_code formed pending size room }
 {
-    let form_ok = formed & (pending <= MAX_PENDING);
-    if !form_ok {
-        return Code::Einval;
+    if !formed || pending > MAX_PENDING {
+        return Err(Refusal::Einval);
     }
     if size > MAX_LOG_BYTES {
-        return Code::Eoverflow;
+        return Err(Refusal::Eoverflow);
     }
     let records = (pending as usize + size) / RECORD_BYTES;
     if room < records * ANSWER_BYTES {
-        return Code::Enomem;
+        return Err(Refusal::Enomem);
     }
-    Code::Ok
+    Ok(())
 }
