@@ -1,5 +1,4 @@
 -- By the length of the bytes, and each part as its reader gives it. Assumes nothing.
-use borrow.Author.Rules.{rules}
 use borrow.Author.Tests.{lt-ltb, le-ltb}
 use Rattle.machine.specs.State.{not_made}
 use Rattle.machine_bytes.specs.Bytes.{machine_of, reading}
@@ -14,8 +13,8 @@ unfolding reading machine_of
 returns c =
     rw (
       le-ltb _ _ c.if-bytes-lt-MACHINE_BYTES.false,
-      c.setup_of-setup.ensures,
-      c.cpus_of-cpus.ensures,
-      c.threads_of-threads.ensures,
-      c.locks_of-locks.ensures,
+      c.read.ensures,
+      c.read_each.ensures,
+      c.read_each-2.ensures,
+      c.read_each-3.ensures,
     )
