@@ -1,7 +1,7 @@
 -- A machine's bytes: how many there are, how they are stored, that room too short stays, and that a machine comes back. Assumes nothing.
 use mathlib.Core.Path.{◌≡◌, sym, ap, ◌∙◌}
 use mathlib.Core.List.{List, ◌++◌, append_assoc}
-use Prim.Native.Nat.{ℕ, ◌+◌, ◌≤◌, ◌<◌}
+use Prim.Native.Nat.{ℕ, ◌≤◌, ◌<◌}
 use native.Mathlib.Nat.{zero-add}
 use native.Mathlib.Omega.{arith}
 use lib.IntN.{ℤ}
@@ -32,7 +32,7 @@ use Rattle.machine_bytes.specs.Bytes.{
   machine_of,
   put_code,
 }
-use Rattle.machine_bytes.proofs.Cells.{length_setup, length_cpu, length_thread, length_lock}
+use Rattle.machine_bytes.specs.Sizes.{length_setup, length_cpu, length_thread, length_lock}
 use Rattle.machine_bytes.proofs.Each.{length_each, Back}
 use Rattle.machine_bytes.proofs.Stores.{four_runs}
 
@@ -52,9 +52,9 @@ pub record Lengths (m : Machine) : Type 0 where
 -- Every part of a machine comes back from its bytes.
 pub record PartsBack (m : Machine) : Type 0 where
   pub setup : (rest : List ℕ) → setup_of (setup_bytes m.setup ++ rest) ≡ m.setup
-  pub cpus : Back cpu_bytes 14 length_cpu cpu_of m.cpus cpu_slots
-  pub threads : Back thread_bytes 13 length_thread thread_of m.threads thread_count
-  pub locks : Back lock_bytes 18 length_lock lock_of m.locks lock_count
+  pub cpus : Back cpu_bytes cpu_of 14 m.cpus cpu_slots
+  pub threads : Back thread_bytes thread_of 13 m.threads thread_count
+  pub locks : Back lock_bytes lock_of 18 m.locks lock_count
 
 same_machine : (m : Machine) {s : Setup} {cs : List Cpu} {ts : List Thread} {ls : List Lock} → s ≡ m.setup → cs ≡ m.cpus → ts ≡ m.threads
     → ls ≡ m.locks → record { setup = s; cpus = cs; threads = ts; locks = ls } ≡ m

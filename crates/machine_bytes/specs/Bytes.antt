@@ -1,19 +1,17 @@
 -- A machine as 2,950 bytes, numbers high byte first: setup 6, then 16 CPUs of 14, 32 threads of 13 and 128 locks of 18.
-use Rattle.std.specs.Prelude.{ℕ, zero, suc, ◌+◌, Bool, true, false, cond, List, [], ◌∷◌, ◌++◌, eqb, ltb, ℤ, length, get_or, drop}
+use Rattle.machine.specs.declared.ThreadId.{ThreadId}
+use Rattle.machine.specs.declared.CpuId.{CpuId}
+use Rattle.std.specs.Prelude.{ℕ, zero, suc, ◌+◌, Bool, cond, List, [], ◌∷◌, ◌++◌, eqb, ltb, ℤ, length, get_or, drop, Option, None, Some, is_some, unwrap_or, option_map}
 use Rattle.error.specs.Codes.{OK, ENOMEM}
 use Rattle.error.specs.Answer.{Answer, answer}
 use Rattle.words.specs.HighFirst.{high_first, from_high_first}
 use Rattle.words.specs.Signed.{to_signed, from_signed}
-use Rattle.spinlock.specs.declared.Owner.{Owner}
 use Rattle.machine.specs.State.{cpu_slots, thread_count, lock_count, not_made}
-use Rattle.machine.specs.declared.Current.{Current}
-use Rattle.machine.specs.declared.Place.{Place}
 use Rattle.machine.specs.declared.Setup.{Setup}
 use Rattle.machine.specs.declared.Cpu.{Cpu}
 use Rattle.machine.specs.declared.Thread.{Thread}
 use Rattle.machine.specs.declared.Lock.{Lock}
 use Rattle.machine.specs.declared.Machine.{Machine}
-use Rattle.machine_bytes.specs.declared.fields.Tag.{Tag}
 
 -- How many bytes a machine has.
 abbrev pub machine_size : ℕ
@@ -54,44 +52,29 @@ signed_bytes z = four_bytes (from_signed 31 z)
 abbrev pub signed_at : List ℕ → ℕ → ℤ
 signed_at bs at = to_signed 31 (four_at bs at)
 
--- What may be missing, 5 bytes: whether it is there 1, its number 4.
-abbrev pub tag_bytes : Tag → List ℕ
-tag_bytes t = yes_bytes t.present ++ four_bytes t.number
+-- A number that may be missing, 5 bytes: whether it is there 1, the number 4. What is missing is written with the number 0.
+abbrev pub tag_bytes : Option ℕ → List ℕ
+tag_bytes t = yes_bytes (is_some t) ++ four_bytes (unwrap_or t 0)
 
--- What may be missing, in the 5 bytes from a place on.
-abbrev pub tag_at : List ℕ → ℕ → Tag
-tag_at bs at = record { present = yes_at bs at; number = four_at bs (at + 1) }
+-- What may be missing, in the 5 bytes from a place on. The number of what is missing is ignored.
+abbrev pub tag_at : List ℕ → ℕ → Option ℕ
+tag_at bs at = cond (yes_at bs at) (Some (four_at bs (at + 1))) None
 
--- What is missing is written with the number 0.
-abbrev pub missing : Tag
-missing = record { present = false; number = 0 }
+-- The number of the thread that a CPU runs, which may be missing.
+abbrev pub tag_of_current : Option ThreadId → Option ℕ
+tag_of_current current = option_map (λ t. t.0) current
 
--- The thread that a CPU runs, as what may be missing.
-abbrev pub tag_of_current : Current → Tag
-tag_of_current Current.None = missing
-tag_of_current (Current.Thread t) = record { present = true; number = t.0 }
+-- The thread that a CPU runs.
+abbrev pub current_of : Option ℕ → Option ThreadId
+current_of number = option_map (λ n. record { 0 = n }) number
 
--- The thread that a CPU runs. The number of what is missing is ignored.
-abbrev pub current_of : Tag → Current
-current_of t = cond t.present (Current.Thread (record { 0 = t.number })) Current.None
+-- The number of the CPU on which a thread runs, which may be missing.
+abbrev pub tag_of_place : Option CpuId → Option ℕ
+tag_of_place place = option_map (λ c. c.0) place
 
--- The CPU on which a thread runs, as what may be missing.
-abbrev pub tag_of_place : Place → Tag
-tag_of_place Place.Nowhere = missing
-tag_of_place (Place.On c) = record { present = true; number = c.0 }
-
--- The CPU on which a thread runs. The number of what is missing is ignored.
-abbrev pub place_of : Tag → Place
-place_of t = cond t.present (Place.On (record { 0 = t.number })) Place.Nowhere
-
--- The thread that holds a lock, as what may be missing.
-abbrev pub tag_of_owner : Owner → Tag
-tag_of_owner Owner.None = missing
-tag_of_owner (Owner.Thread t) = record { present = true; number = t }
-
--- The thread that holds a lock. The number of what is missing is ignored.
-abbrev pub owner_of : Tag → Owner
-owner_of t = cond t.present (Owner.Thread t.number) Owner.None
+-- The CPU on which a thread runs.
+abbrev pub place_of : Option ℕ → Option CpuId
+place_of number = option_map (λ n. record { 0 = n }) number
 
 -- Setup, 6 bytes: n 4, pin-only 1, wide 1.
 unfoldable pub setup_bytes : Setup → List ℕ
@@ -124,14 +107,14 @@ thread_of bs = record { mask = four_at bs 0; priority = signed_at bs 4; place = 
 -- A lock, 18 bytes: owner 5, depth 4, irq flag 1, word 8.
 unfoldable pub lock_bytes : Lock → List ℕ
 lock_bytes l =
-    tag_bytes (tag_of_owner l.state.owner)
+    tag_bytes l.state.owner
     ++ (four_bytes l.state.nest_count ++ (yes_bytes l.state.irq_saved ++ eight_bytes l.word))
 
 -- The lock in front of bytes.
 unfoldable pub lock_of : List ℕ → Lock
 lock_of bs =
     record {
-      state = record { owner = owner_of (tag_at bs 0); nest_count = four_at bs 5; irq_saved = yes_at bs 9 };
+      state = record { owner = tag_at bs 0; nest_count = four_at bs 5; irq_saved = yes_at bs 9 };
       word = eight_at bs 10;
     }
 

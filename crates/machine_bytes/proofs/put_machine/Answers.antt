@@ -1,5 +1,4 @@
 -- By the length of the room, and the parts stored behind one another (`Whole`). Assumes nothing.
-use borrow.Author.Rules.{rules}
 use Rattle.machine_bytes.proofs.Whole.{Lengths, no_room, enough_room, machine_stored}
 use Rattle.machine_bytes.proofs.put_machine.Goals as goal
 
@@ -31,12 +30,12 @@ returns c =
     let m = c.args.m in
     let room = c.args.out.now in
     let told = enough_room m made room _ c.if-out-lt-MACHINE_BYTES.false
-    (machine_stored m made room c.put_setup.ensures.room c.put_cpus.ensures.room c.put_threads.ensures.room c.put_locks.ensures.room)
+    (machine_stored m made room c.put.ensures.room c.put_each.ensures.room c.put_each-2.ensures.room c.put_each-3.ensures.room)
     (record {
-      setup = c.put_setup.ensures.back;
-      cpus = c.put_cpus.ensures.back;
-      threads = c.put_threads.ensures.back;
-      locks = c.put_locks.ensures.back;
+      setup = c.put.ensures.back;
+      cpus = rw made.cpus at c.put_each.ensures.back;
+      threads = rw made.threads at c.put_each-2.ensures.back;
+      locks = rw made.locks at c.put_each-3.ensures.back;
     }) in
     record {
       code = told.0;

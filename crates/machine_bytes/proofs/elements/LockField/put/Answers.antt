@@ -1,0 +1,11 @@
+-- Four runs of stores, one behind the other, and the numbers come back. Assumes nothing.
+use Rattle.machine_bytes.proofs.Cells.{lock_stored, lock_back}
+use Rattle.machine_bytes.proofs.elements.LockField.put.Goals as goal
+
+pub returns-clause-room : goal.returns-clause-room
+returns-clause-room c =
+    let a = c.args in
+    lock_stored a.self a.out.now a.at c.put.ensures.room c.put-2.ensures.room c.put-3.ensures.room c.put-4.ensures.room
+
+pub returns-clause-back : goal.returns-clause-back
+returns-clause-back c = lock_back c.args.self c.put.ensures.back c.put-2.ensures.back c.put-3.ensures.back c.put-4.ensures.back

@@ -1,0 +1,6 @@
+-- Each field is read at its place. Assumes nothing.
+use Rattle.machine_bytes.proofs.Cells.{lock_read}
+use Rattle.machine_bytes.proofs.elements.LockField.read.Goals as goal
+
+pub returns : goal.returns
+returns c = lock_read _ c.args.bytes.now c.args.at c.read.ensures c.read-2.ensures c.read-3.ensures c.read-4.ensures
