@@ -34,10 +34,8 @@ pub fn hubcrackle_spin_lock_compute_owner(
     ensures code { result ≡ call_code (compute_owner current_cpu_id current_thread wide) (length out.old) }
     ensures room { out.new ≡ call_room (compute_owner current_cpu_id current_thread wide) out.old }
 {
-    lent_room::put(
-        out,
-        owner_flags::compute_owner(current_cpu_id, current_thread, wide),
-    )
+    let owner = owner_flags::compute_owner(current_cpu_id, current_thread, wide);
+    lent_room::put(out, owner)
 }
 
 // The thread and the CPU in an owner word: 8 bytes and 1, all zero for a free lock.
@@ -58,10 +56,8 @@ pub fn hubcrackle_spin_lock_valid(
     ensures code { result ≡ call_code (lock_valid thread_cpu current_cpu_id wide) (length out.old) }
     ensures room { out.new ≡ call_room (lock_valid thread_cpu current_cpu_id wide) out.old }
 {
-    lent_room::put(
-        out,
-        owner_flags::lock_valid(thread_cpu, current_cpu_id, wide),
-    )
+    let lock = owner_flags::lock_valid(thread_cpu, current_cpu_id, wide);
+    lent_room::put(out, lock)
 }
 
 // Whether this thread on this CPU may unlock the lock that has this word: 1 byte.
@@ -75,8 +71,8 @@ pub fn hubcrackle_spin_unlock_valid(
     ensures code { result ≡ call_code (unlock_valid thread_cpu current_cpu_id current_thread wide) (length out.old) }
     ensures room { out.new ≡ call_room (unlock_valid thread_cpu current_cpu_id current_thread wide) out.old }
 {
-    let valid = owner_flags::unlock_valid(thread_cpu, current_cpu_id, current_thread, wide);
-    lent_room::put(out, valid)
+    let unlock = owner_flags::unlock_valid(thread_cpu, current_cpu_id, current_thread, wide);
+    lent_room::put(out, unlock)
 }
 
 // The mask with bits enabled and then disabled: 4 bytes. A refusal does not write the current mask.
