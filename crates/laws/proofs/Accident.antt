@@ -1,4 +1,5 @@
 -- The accident, computed: what the program writes, and what the next job then holds. Assumes nothing.
+use Rattle.std.specs.Prelude.{Some}
 use mathlib.Core.Path.{◌≡◌, refl}
 use mathlib.Core.Bool.{true}
 use mathlib.Core.List.{◌∷◌}
@@ -33,7 +34,7 @@ unfolding opened flagged zeros busy comes stopped following accident accident_an
 answers = refl
 
 -- Lock 7 is the next job's, at depth 1, and CPU 0 holds one level.
-pub ends : (lock_at accident_end 7 ≡ record { state = record { owner = Thread 4; nest_count = 1; irq_saved = true }; word = 20 })
+pub ends : (lock_at accident_end 7 ≡ record { state = record { owner = Some 4; nest_count = 1; irq_saved = true }; word = 20 })
     × ((cpu_at accident_end 0).hold ≡ 1)
 unfolding opened flagged comes stopped following accident accident_end bit spin_lock_compute_owner spin_lock_valid spin_unlock_valid code_of after operate
     valid_record situation_at thread_mask fresh_machine fresh setup fields_of row_of fits request_of up put take lock_op unwind answered next state_at

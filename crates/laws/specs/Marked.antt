@@ -1,7 +1,7 @@
 -- 01, "Marked examples": one table, one claim. Each row is an example's number, what a rule gives, and what 01 says that it gives; the claim
 -- is that the two are equal in every row. It is closed by computing (proofs/Marked.antt). A second table, ours, goes on with the wide machine of
 -- 02, request 4, and with a self-deadlock there, request 6.
-use Rattle.std.specs.Prelude.{◌≡◌, Bool, true, false, List, [], ◌∷◌, ◌++◌, ℕ, pos, replicate}
+use Rattle.std.specs.Prelude.{◌≡◌, Bool, true, false, List, [], ◌∷◌, ◌++◌, ℕ, pos, replicate, Some}
 use Rattle.error.specs.Codes.{OK, EBUSY, EINVAL}
 use Rattle.error.specs.Answer.{answer}
 use Rattle.spinlock_validate.specs.Owner.{tag_bits, wide_tag_bits, nobody, held_by, spin_lock_compute_owner, spin_lock_decode_owner, spin_lock_valid}
@@ -31,7 +31,7 @@ all = 0xffff_ffff
 
 -- The lock record of thread 9 at a depth.
 unfoldable pub at : ℕ → SpinlockState
-at depth = record { owner = Thread 9; nest_count = depth; irq_saved = true }
+at depth = record { owner = Some 9; nest_count = depth; irq_saved = true }
 
 -- One CPU.
 unfoldable pub cpu : Bool → ℕ → CpuRecord
@@ -90,7 +90,7 @@ table =
     ∷ M 9 (compute_ipi_mask 0 (pos 5) 15 cpus 4 4) (answer OK 2)
     ∷ M 10 (compute_ipi_mask 0 (pos 2147483647) 15 cpus 4 4) (answer OK 0)
     ∷ M 11 (respond_room (0x20 ∷ worked_log) (replicate 56 0)) worked_answers
-    ∷ M 11 (lock_at worked_end 7) (record { state = record { owner = Thread 3; nest_count = 1; irq_saved = true }; word = 16 })
+    ∷ M 11 (lock_at worked_end 7) (record { state = record { owner = Some 3; nest_count = 1; irq_saved = true }; word = 16 })
     ∷ M 11 (cpu_at worked_end 0).hold 1
     ∷ []
 
@@ -144,7 +144,7 @@ wide_table =
     ∷ M 14 (setup 0xf4).value.setup (wide_of 15)
     ∷ M 14 (setup 0xf0) not_made
     ∷ M 15 (respond_room (0x04 ∷ wide_log) (replicate 56 0)) wide_answers
-    ∷ M 15 (lock_at wide_end 7) (record { state = record { owner = Thread 3; nest_count = 1; irq_saved = true }; word = 79 })
+    ∷ M 15 (lock_at wide_end 7) (record { state = record { owner = Some 3; nest_count = 1; irq_saved = true }; word = 79 })
     ∷ M 15 (cpu_at wide_end 15).hold 1
     ∷ M 16 (respond_room (0x04 ∷ twice_log) (replicate 64 0)) twice_answers
     ∷ []
