@@ -48,7 +48,7 @@ const NO_BYTE: u8 = 0;
 pub fn start(m: Machine) -> Result<Form, Refusal>
     ensures { says (begun m) result ≡ started m }
 {
-    if !wellformed::well_formed(m) {
+    if !wellformed::well_formed(&m) {
         return Err(Refusal::Einval);
     }
     Ok(Form {
@@ -88,7 +88,7 @@ fn run_arrived(f: &mut Form, fragment: &[u8], out: &mut [u8]) -> Result<(), Refu
 {
     let size = fragment.len();
     if !completes(f.count, size) {
-        return log_tests::feed_code(wellformed::well_formed(f.machine), f.count, size, out.len());
+        return log_tests::feed_code(wellformed::well_formed(&f.machine), f.count, size, out.len());
     }
     let count = f.count as usize;
     let first = padded(&f.pending[..count], fragment);
@@ -121,7 +121,7 @@ pub fn feed(f: &mut Form, fragment: &[u8], out: &mut [u8]) -> Result<u32, Refusa
 pub fn finish(f: &Form) -> Result<(), Refusal>
     ensures { answer (number_of result) f.now ≡ finished f.now }
 {
-    if !wellformed::well_formed(f.machine) || f.count > 0 {
+    if !wellformed::well_formed(&f.machine) || f.count > 0 {
         return Err(Refusal::Einval);
     }
     Ok(())

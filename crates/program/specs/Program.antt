@@ -1,15 +1,10 @@
 -- 01, "Log records", the program: a setup byte and a log. No setup byte, a bad one (EINVAL, first), or a refused log writes one answer with that
 -- code and value 0. An empty log writes nothing.
 use Rattle.std.specs.Prelude.{ℕ, ◌*◌, ◌/◌, cond, List, eqb, ℤ, length, get_or, drop}
-use Rattle.error.specs.Codes.{OK, EINVAL, number_of, is_ok}
+use Rattle.error.specs.Codes.{OK, EINVAL, is_ok}
 use Rattle.error.specs.Answer.{Answer, answer}
 use Rattle.answers.specs.Answer.{answer_bytes, written, put_code}
 use Rattle.setup_run.specs.Run.{code_from_setup, room_from_setup}
-use Rattle.program.specs.declared.Response.{Response}
-
--- A response's code and size.
-abbrev pub response_says : Response → Answer ℕ
-response_says a = answer (number_of a.code) a.size
 
 -- The setup byte, and the log behind it.
 abbrev pub setup_of : List ℕ → ℕ

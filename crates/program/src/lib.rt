@@ -6,10 +6,13 @@
 #![tactic(auto)]
 
 ghost use Rattle.std.specs.Prelude.{◌≡◌, length};
-ghost use Rattle.program.specs.Program.{response_says, refusal_size, refusal_room, respond_size, respond_room};
-ghost use Rattle.error.specs.Codes.{number_of};
+ghost use Rattle.program.specs.Program.{refusal_size, refusal_room, respond_size, respond_room};
+ghost use Rattle.error.specs.Codes.{refusal_number};
+ghost use Rattle.error.specs.Answer.{says};
 
-use error::Code;
+use answers::ANSWER_BYTES;
+use error::Refusal;
+use record::RECORD_BYTES;
 
 // The longest input: a setup byte and the longest log.
 pub const MAX_INPUT_BYTES: usize = 24577;
@@ -17,43 +20,25 @@ pub const MAX_INPUT_BYTES: usize = 24577;
 // Room for every answer of the longest log.
 pub const MAX_ANSWER_BYTES: usize = 16384;
 
-// How many bytes of answers were written; or 0 with the code of a refusal for want of room.
-#[derive(Clone, Copy)]
-pub struct Response {
-    pub code: Code,
-    pub size: usize,
-}
-
-// One answer, for an input that is refused.
-fn refuse(out: &mut [u8], code: Code) -> Response
-    ensures size { response_says result ≡ refusal_size (length out.old) }
-    ensures room { out.new ≡ refusal_room (number_of code) out.old }
+// One answer, for an input that is refused, and how many bytes it has.
+fn refuse(out: &mut [u8], why: Refusal) -> Result<usize, Refusal>
+    ensures size { says 0 result ≡ refusal_size (length out.old) }
+    ensures room { out.new ≡ refusal_room (refusal_number why) out.old }
 {
-    let put = answers::put_answer(out, code, 0);
-    if !error::is_ok(put) {
-        return Response { code: put, size: 0 };
-    }
-    Response {
-        code: put,
-        size: answers::ANSWER_BYTES,
-    }
+    answers::put_answer(out, Err(why), 0)?;
+    Ok(ANSWER_BYTES)
 }
 
-// Writes the answers to an input over the front of the room, and says how many bytes they have.
-pub fn respond(input: &[u8], out: &mut [u8]) -> Response
-    ensures size { response_says result ≡ respond_size input.now (length out.old) }
+// Writes the answers to an input over the front of the room, and says how many bytes they have; or refuses for want of room.
+pub fn respond(input: &[u8], out: &mut [u8]) -> Result<usize, Refusal>
+    ensures size { says 0 result ≡ respond_size input.now (length out.old) }
     ensures room { out.new ≡ respond_room input.now out.old }
 {
-    if input.len() == 0 {
-        return refuse(out, Code::Einval);
-    }
-    let code = setup_run::run_from_setup(input[0], &input[1..], out);
-    if !error::is_ok(code) {
-        return refuse(out, code);
-    }
-    let size = (input.len() - 1) / record::RECORD_BYTES * answers::ANSWER_BYTES;
-    Response {
-        code: Code::Ok,
-        size,
+    let Some((setup, log)) = input.split_first() else {
+        return refuse(out, Refusal::Einval);
+    };
+    match setup_run::run_from_setup(*setup, log, out) {
+        Ok(()) => Ok(log.len() / RECORD_BYTES * ANSWER_BYTES),
+        Err(why) => refuse(out, why),
     }
 }

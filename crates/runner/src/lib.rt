@@ -104,7 +104,7 @@ fn run_records(m: &mut Machine, log: &[u8], out: &mut [u8])
 pub fn step(mut m: Machine, bytes: &[u8]) -> Result<(u32, Machine), Refused>
     ensures { stepped_says m result ≡ Step-step m bytes.now }
 {
-    if !wellformed::well_formed(m) || bytes.len() != RECORD_BYTES {
+    if !wellformed::well_formed(&m) || bytes.len() != RECORD_BYTES {
         return Err(Refused::from(Refusal::Einval));
     }
     let value = answer_record(&mut m, bytes)?;
@@ -116,7 +116,7 @@ pub fn run(m: &mut Machine, log: &[u8], out: &mut [u8]) -> Result<(), Refusal>
     ensures machine { answer (number_of result) m.new ≡ ran m.old log.now (length out.old) }
     ensures room { out.new ≡ ran_room m.old log.now out.old }
 {
-    log_tests::run_code(wellformed::well_formed(*m), log.len(), out.len())?;
+    log_tests::run_code(wellformed::well_formed(m), log.len(), out.len())?;
     run_records(m, log, out);
     Ok(())
 }
@@ -132,7 +132,7 @@ pub fn run_joined(
     ensures room { out.new ≡ ran_room m.old (first ++ others.now) out.old }
 {
     let size = RECORD_BYTES + others.len();
-    log_tests::run_code(wellformed::well_formed(*m), size, out.len())?;
+    log_tests::run_code(wellformed::well_formed(m), size, out.len())?;
     run_records(m, &first, out);
     run_records(m, others, &mut out[ANSWER_BYTES..]);
     Ok(())

@@ -67,8 +67,8 @@ fn threads_ok(m: &Machine) -> bool
 
 // Whether a machine is well-formed.
 #[tactic(auto, using(crate::proofs::Loops::loops_say))]
-pub fn well_formed(m: Machine) -> bool
-    ensures { result ≡ well_formed m }
+pub fn well_formed(m: &Machine) -> bool
+    ensures { result ≡ well_formed m.now }
 {
-    m.setup.is_ok() && cpus_ok(&m) && locks_ok(&m) && threads_ok(&m)
+    m.setup.is_ok() && cpus_ok(m) && locks_ok(m) && threads_ok(m)
 }

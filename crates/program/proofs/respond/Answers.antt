@@ -1,44 +1,34 @@
 -- Each return is one of the three ways (`Cases`), from what the calls ensure. Assumes nothing.
-use mathlib.Core.Path.{sym, ◌∙◌}
-use borrow.Author.Tests.{not-true, not-false}
-use Rattle.program.proofs.Cases.{lent_log, no_setup, refused_run, whole_run}
-use borrow.Author.Rules.{rules}
+use mathlib.Core.Path.{◌∙◌}
+use Rattle.program.proofs.Cases.{no_setup, refused_run, whole_run}
 use Rattle.program.proofs.respond.Goals as goal
 
-pub returns-then-input-eq0-clause-size : goal.returns-then-input-eq0-clause-size
-returns-then-input-eq0-clause-size c =
-    let a = c.args in
-    let k = no_setup a.input.now a.out.now c.if-input-eq0.true in
-    c.refuse.ensures.size ∙ k.0
+pub returns-in_default-clause-size : goal.returns-in_default-clause-size
+returns-in_default-clause-size c =
+    let told = no_setup c.args.input.now c.args.out.now c.in_default.ensures.cases in c.refuse.ensures.size ∙ told.0
 
-pub returns-then-input-eq0-clause-room : goal.returns-then-input-eq0-clause-room
-returns-then-input-eq0-clause-room c =
-    let a = c.args in
-    let k = no_setup a.input.now a.out.now c.if-input-eq0.true in
-    c.refuse.ensures.room ∙ k.1
+pub returns-in_default-clause-room : goal.returns-in_default-clause-room
+returns-in_default-clause-room c =
+    let told = no_setup c.args.input.now c.args.out.now c.in_default.ensures.cases in c.refuse.ensures.room ∙ told.1
 
-pub returns-then-not-is_ok-clause-size : goal.returns-then-not-is_ok-clause-size
-returns-then-not-is_ok-clause-size c =
-    let a = c.args in
-    let bad = sym c.is_ok.ensures ∙ c.if-not-is_ok.true in
-    let k = refused_run a.input.now a.out.now c.if-input-eq0.false (lent_log a.input.now) c.run_from_setup-code.ensures.code c.run_from_setup-code.ensures.room bad in
-    c.refuse-then-not-is_ok.ensures.size ∙ k.0
+pub returns-in-Ok-clause-size : goal.returns-in-Ok-clause-size
+returns-in-Ok-clause-size c =
+    let first = c.in-Some.ensures.cases.0 in
+    let told = whole_run first c.args.out.now c.in-Ok.ensures.code c.in-Ok.ensures.room in told.0
 
-pub returns-then-not-is_ok-clause-room : goal.returns-then-not-is_ok-clause-room
-returns-then-not-is_ok-clause-room c =
-    let a = c.args in
-    let bad = sym c.is_ok.ensures ∙ c.if-not-is_ok.true in
-    let k = refused_run a.input.now a.out.now c.if-input-eq0.false (lent_log a.input.now) c.run_from_setup-code.ensures.code c.run_from_setup-code.ensures.room bad in
-    c.refuse-then-not-is_ok.ensures.room ∙ k.1
+pub returns-in-Ok-clause-room : goal.returns-in-Ok-clause-room
+returns-in-Ok-clause-room c =
+    let first = c.in-Some.ensures.cases.0 in
+    let told = whole_run first c.args.out.now c.in-Ok.ensures.code c.in-Ok.ensures.room in told.1
 
-pub returns-clause-size : goal.returns-clause-size
-returns-clause-size c =
-    let a = c.args in
-    let fine = sym c.is_ok.ensures ∙ c.if-not-is_ok.false in
-    let told = whole_run a.input.now a.out.now c.if-input-eq0.false (lent_log a.input.now) c.run_from_setup-code.ensures.code c.run_from_setup-code.ensures.room fine in told.0
+pub returns-in-Err-clause-size : goal.returns-in-Err-clause-size
+returns-in-Err-clause-size c =
+    let first = c.in-Some.ensures.cases.0 in
+    let told = refused_run first c.args.out.now c.in-Err.why c.in-Err.ensures.code c.in-Err.ensures.room in
+    c.refuse-in-Err.ensures.size ∙ told.0
 
-pub returns-clause-room : goal.returns-clause-room
-returns-clause-room c =
-    let a = c.args in
-    let fine = sym c.is_ok.ensures ∙ c.if-not-is_ok.false in
-    let told = whole_run a.input.now a.out.now c.if-input-eq0.false (lent_log a.input.now) c.run_from_setup-code.ensures.code c.run_from_setup-code.ensures.room fine in told.1
+pub returns-in-Err-clause-room : goal.returns-in-Err-clause-room
+returns-in-Err-clause-room c =
+    let first = c.in-Some.ensures.cases.0 in
+    let told = refused_run first c.args.out.now c.in-Err.why c.in-Err.ensures.code c.in-Err.ensures.room in
+    c.refuse-in-Err.ensures.room ∙ told.1
