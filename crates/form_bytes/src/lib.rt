@@ -6,17 +6,17 @@
 
 #![tactic(auto)]
 
-ghost use Rattle.std.specs.Prelude.{◌≡◌, ◌++◌, ◌≤◌, length, drop};
-ghost use Rattle.std.proofs.lemmas.List.Edits.{sets};
-ghost use Rattle.error.specs.Codes.{number_of};
-ghost use Rattle.feed.specs.Feed.{padded};
+ghost use Rattle.std.specs.Prelude.{◌≡◌, cond, ltb, ◌++◌, ◌≤◌, length, drop};
+ghost use Rattle.error.specs.Codes.{OK, ENOMEM, EINVAL, number_of};
+ghost use Rattle.error.specs.Answer.{answer, says};
+ghost use Rattle.runner.specs.Run.{on_ok};
 ghost use Rattle.form_bytes.specs.Form.{
   form_bytes,
   form_of,
   start_code,
   start_room,
   start_form,
-  fed_form_says,
+  on_form,
   fed_by,
   form_after,
   room_after,
@@ -24,7 +24,7 @@ ghost use Rattle.form_bytes.specs.Form.{
   finished_code,
 };
 
-use error::Code;
+use error::Refusal;
 use feed::{Form, PENDING_BYTES};
 
 // How many bytes a form has.
@@ -35,130 +35,67 @@ const PENDING_AT: usize = 2950;
 
 const COUNT_AT: usize = 2961;
 
-// A feed's code, and how many records were run.
-#[derive(Clone, Copy)]
-pub struct FedForm {
-    pub code: Code,
-    pub records: u32,
-}
-
-// A byte as a number.
-fn number(byte: u8) -> u32
-    ensures { result ≡ byte }
+// The form in front of the bytes. Too few bytes are no form.
+fn form_of(bytes: &[u8]) -> Result<Form, Refusal>
+    ensures { says (form_of bytes.now) result ≡ answer (on_form bytes.now OK EINVAL) (form_of bytes.now) }
 {
-    byte as u32
-}
-
-// The places for pending bytes in the bytes of a form.
-fn pending_of(bytes: &[u8]) -> [u8; PENDING_BYTES]
-    requires { 2962 ≤ length bytes.now }
-    ensures { result ≡ padded 11 (drop 2950 bytes.now) }
-{
-    let mut pending = [0u8; PENDING_BYTES];
-    for i in 0..PENDING_BYTES {
-        pending[i] = bytes[PENDING_AT + i];
+    if bytes.len() < FORM_BYTES {
+        return Err(Refusal::Einval);
     }
-    pending
-}
-
-// The form in front of the bytes.
-fn form_of(bytes: &[u8]) -> Form
-    requires { 2962 ≤ length bytes.now }
-    ensures { result ≡ form_of bytes.now }
-{
-    let made = machine_bytes::machine_of(bytes);
-    let machine = made.machine;
-    let pending = pending_of(bytes);
-    let count = number(bytes[COUNT_AT]);
-    Form {
+    let machine = machine_bytes::machine_of(bytes)?;
+    let mut pending = [0; PENDING_BYTES];
+    pending.copy_from_slice(&bytes[PENDING_AT..COUNT_AT]);
+    Ok(Form {
         machine,
         pending,
-        count,
-    }
+        count: u32::from(bytes[COUNT_AT]),
+    })
 }
 
-// Pending bytes into their places in the bytes of a form.
-fn put_pending(out: &mut [u8], pending: [u8; PENDING_BYTES])
-    requires { 2962 ≤ length out.old }
-    ensures { out.new ≡ sets out.old 2950 pending }
+// A form over the front of the room. It reads back as itself, and room too short for it stays as it was.
+fn put_form(out: &mut [u8], form: &Form) -> Result<(), Refusal>
+    requires { form.now.count ≤ 11 }
+    ensures code { number_of result ≡ cond (ltb (length out.old) 2962) ENOMEM OK }
+    ensures room { out.new ≡ on_ok (number_of result) (form_bytes form.now ++ drop 2962 out.old) out.old }
+    ensures back { form_of out.new ≡ on_ok (number_of result) form.now (form_of out.old) }
 {
-    for i in 0..PENDING_BYTES {
-        out[PENDING_AT + i] = pending[i];
+    if out.len() < FORM_BYTES {
+        return Err(Refusal::Enomem);
     }
-}
-
-// A form over the front of the bytes. It reads back as itself.
-fn put_form(out: &mut [u8], form: Form)
-    requires { (2962 ≤ length out.old) × (form.count ≤ 11) }
-    ensures room { out.new ≡ form_bytes form ++ drop 2962 out.old }
-    ensures back { form_of out.new ≡ form }
-{
-    let machine = form.machine;
-    machine_bytes::put_machine(out, machine);
-    let pending = form.pending;
-    put_pending(out, pending);
+    machine_bytes::put_machine(out, form.machine)?;
+    out[PENDING_AT..COUNT_AT].copy_from_slice(&form.pending);
     out[COUNT_AT] = form.count as u8;
+    Ok(())
 }
 
 // A form with nothing pending, on the machine that a setup byte asks for, over the front of the room.
-pub fn start_form(setup: u8, out: &mut [u8]) -> Code
+pub fn start_form(setup: u8, out: &mut [u8]) -> Result<(), Refusal>
     ensures code { number_of result ≡ start_code setup (length out.old) }
     ensures room { out.new ≡ start_room setup out.old }
     ensures back { form_of out.new ≡ start_form setup out.old }
 {
-    let made = machine::from_setup_byte(setup);
-    let code = made.code;
-    if !error::is_ok(code) {
-        return code;
-    }
-    let m = made.machine;
-    let begun = feed::start(m);
-    let code = begun.code;
-    if !error::is_ok(code) {
-        return code;
-    }
-    if out.len() < FORM_BYTES {
-        return Code::Enomem;
-    }
-    let form = begun.form;
-    put_form(out, form);
-    Code::Ok
+    let machine = machine::from_setup_byte(setup)?;
+    let form = feed::start(machine)?;
+    put_form(out, &form)
 }
 
-// A fragment, its answers into lent room, on the form in front of the bytes.
-pub fn feed_form(bytes: &mut [u8], fragment: &[u8], out: &mut [u8]) -> FedForm
-    ensures fed { fed_form_says result ≡ fed_by bytes.old fragment.now (length out.old) }
+// A fragment, its answers into lent room, on the form in front of the bytes: how many records were run.
+pub fn feed_form(bytes: &mut [u8], fragment: &[u8], out: &mut [u8]) -> Result<u32, Refusal>
+    ensures fed { says 0 result ≡ fed_by bytes.old fragment.now (length out.old) }
     ensures form { bytes.new ≡ form_after bytes.old fragment.now (length out.old) }
     ensures back { form_of bytes.new ≡ fed_form bytes.old fragment.now (length out.old) }
     ensures room { out.new ≡ room_after bytes.old fragment.now out.old }
 {
-    if bytes.len() < FORM_BYTES {
-        return FedForm {
-            code: Code::Einval,
-            records: 0,
-        };
-    }
-    let before = form_of(bytes);
-    let fed = feed::feed(before, fragment, out);
-    let code = fed.code;
-    if error::is_ok(code) {
-        let form = fed.form;
-        put_form(bytes, form);
-    }
-    FedForm {
-        code,
-        records: fed.records,
-    }
+    let mut form = form_of(bytes)?;
+    let records = feed::feed(&mut form, fragment, out)?;
+    put_form(bytes, &form)?;
+    Ok(records)
 }
 
 // The end of a log, by the form in front of the bytes.
-pub fn finish_form(bytes: &[u8]) -> Code
+pub fn finish_form(bytes: &[u8]) -> Result<(), Refusal>
     ensures { number_of result ≡ finished_code bytes.now }
 {
-    if bytes.len() < FORM_BYTES {
-        return Code::Einval;
-    }
-    let form = form_of(bytes);
-    let ended = feed::finish(form);
-    ended.code
+    let form = form_of(bytes)?;
+    feed::finish(&form)
 }

@@ -40,13 +40,13 @@ pub fn hubcrackle_feed(form: &mut [u8], fragment: &[u8], out: &mut [u8], records
     ensures room { out.new ≡ room_after form.old fragment.now out.old }
     ensures records { records.new ≡ on_ok result (records_fed form.old fragment.now (length out.old)) records.old }
 {
-    let fed = form_bytes::feed_form(form, fragment, out);
-    let code = fed.code;
-    if !error::is_ok(code) {
-        return error::number(code);
+    match form_bytes::feed_form(form, fragment, out) {
+        Ok(count) => {
+            *records = count;
+            error::OK
+        }
+        Err(why) => i32::from(why),
     }
-    *records = fed.records;
-    error::number(code)
 }
 
 // The end of a log.

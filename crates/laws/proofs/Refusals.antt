@@ -14,7 +14,8 @@ use Prim.Native.Nat.{ℕ}
 use lib.ListN.{length}
 use Rattle.error.specs.Codes.{number_of, is_ok}
 use Rattle.error.specs.Answer.{Answer, answer}
-use Rattle.error.specs.declared.Code.{Code}
+use Rattle.std.specs.Prelude.{Result}
+use Rattle.error.specs.declared.Refusal.{Refusal}
 use Rattle.spinlock.specs.Lock.{operate}
 use Rattle.spinlock.specs.declared.SpinlockState.{SpinlockState}
 use Rattle.spinlock.specs.declared.Operation.{Operation}
@@ -72,7 +73,7 @@ pub feed_refused : (f : Form) (fragment room : List ℕ) → is_ok (fed f fragme
 feed_refused = Whole.refused_feed
 
 -- A call in place: by its contract the code and the record after it are what the rule gives of the record before it.
-pub in_place_refused : (op : Operation) (before after : SpinlockState) (tid : ℕ) (code : Code)
+pub in_place_refused : (op : Operation) (before after : SpinlockState) (tid : ℕ) (code : Result (Unit {0}) Refusal)
     → answer (number_of code) after ≡ operate op before tid false → is_ok (number_of code) ≡ false → after ≡ before
 in_place_refused op before after tid code e refused =
-    refused_leaves op before after tid code e (λ done. false≢true (sym refused ∙ ap (λ (c : Code). is_ok (number_of c)) done))
+    refused_leaves op before after tid code e (λ done. false≢true (sym refused ∙ ap (λ (c : Result (Unit {0}) Refusal). is_ok (number_of c)) done))

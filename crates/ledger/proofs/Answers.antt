@@ -8,7 +8,9 @@ use lib.Dec.{lit<}
 use lib.IntN.{ℤ}
 use lib.ListN.{length}
 use Rattle.error.specs.Codes.{number_of, is_ok}
-use Rattle.error.specs.declared.Code.{Code}
+use Rattle.std.specs.Prelude.{Result, Ok, Err}
+use Rattle.error.specs.declared.Refusal.{Refusal}
+use Rattle.error.specs.declared.Refusal.TheVariants.{Eperm, Enomem, Ebusy, Einval, Edeadlk, Ealready, Eoverflow}
 use Rattle.answers.specs.Answer.{decode_answer}
 use Rattle.answers.proofs.Laws.{code_back}
 use Rattle.words.specs.Signed.{SignedFits}
@@ -22,35 +24,35 @@ use Rattle.ledger.specs.Ledger.{accepted_at}
 
 -- One of the eight codes.
 pub record IsCode (number : ℤ) : Type 0 where
-  pub code : Code
+  pub code : Result (Unit {0}) Refusal
   pub is : number_of code ≡ number
 
-is_code : (c : Code) → IsCode (number_of c)
+is_code : (c : Result (Unit {0}) Refusal) → IsCode (number_of c)
 is_code c = record { code = c; is = refl }
 
 each_is_code : EachCode IsCode
 each_is_code =
     record {
-      ok = is_code Code.Ok;
-      perm = is_code Code.Eperm;
-      busy = is_code Code.Ebusy;
-      invalid = is_code Code.Einval;
-      already = is_code Code.Ealready;
+      ok = is_code (Ok tt);
+      perm = is_code (Err Eperm);
+      busy = is_code (Err Ebusy);
+      invalid = is_code (Err Einval);
+      already = is_code (Err Ealready);
     }
 
 -- The eight fit in 32 bits, two's complement.
-number_fits : (c : Code) → SignedFits 31 (number_of c)
-number_fits Code.Ok = lit< tt
-number_fits Code.Eperm = lit< tt
-number_fits Code.Enomem = lit< tt
-number_fits Code.Ebusy = lit< tt
-number_fits Code.Einval = lit< tt
-number_fits Code.Edeadlk = lit< tt
-number_fits Code.Ealready = lit< tt
-number_fits Code.Eoverflow = lit< tt
+number_fits : (c : Result (Unit {0}) Refusal) → SignedFits 31 (number_of c)
+number_fits (Ok done) = lit< tt
+number_fits (Err Eperm) = lit< tt
+number_fits (Err Enomem) = lit< tt
+number_fits (Err Ebusy) = lit< tt
+number_fits (Err Einval) = lit< tt
+number_fits (Err Edeadlk) = lit< tt
+number_fits (Err Ealready) = lit< tt
+number_fits (Err Eoverflow) = lit< tt
 
 answered_fits : (m : Machine) (bytes : List ℕ) → SignedFits 31 (answered m bytes).code
-answered_fits m bytes = let c = answered_coded IsCode each_is_code m bytes (λ _. is_code Code.Edeadlk) in rw c.is at (number_fits c.code)
+answered_fits m bytes = let c = answered_coded IsCode each_is_code m bytes (λ _. is_code (Err Edeadlk)) in rw c.is at (number_fits c.code)
 
 -- After a run, the answer bytes say of each record whether its answer was OK.
 pub bytes_tell : (m : Machine) (log room : List ℕ) → is_ok (ran m log (length room)).code ≡ true → (k : ℕ) → k < length log / 12

@@ -1,7 +1,30 @@
 -- A machine as 2,950 bytes, numbers high byte first: setup 6, then 16 CPUs of 14, 32 threads of 13 and 128 locks of 18.
 use Rattle.machine.specs.declared.ThreadId.{ThreadId}
 use Rattle.machine.specs.declared.CpuId.{CpuId}
-use Rattle.std.specs.Prelude.{ℕ, zero, suc, ◌+◌, Bool, cond, List, [], ◌∷◌, ◌++◌, eqb, ltb, ℤ, length, get_or, drop, Option, None, Some, is_some, unwrap_or, option_map}
+use Rattle.std.specs.Prelude.{
+  ℕ,
+  zero,
+  suc,
+  ◌+◌,
+  Bool,
+  cond,
+  List,
+  [],
+  ◌∷◌,
+  ◌++◌,
+  eqb,
+  ltb,
+  ℤ,
+  length,
+  get_or,
+  drop,
+  Option,
+  None,
+  Some,
+  is_some,
+  unwrap_or,
+  option_map,
+}
 use Rattle.error.specs.Codes.{OK, ENOMEM}
 use Rattle.error.specs.Answer.{Answer, answer}
 use Rattle.words.specs.HighFirst.{high_first, from_high_first}

@@ -1,82 +1,53 @@
--- Too few bytes; a fragment that is taken, whose form is written back; and one that is refused. Assumes nothing.
-use mathlib.Core.Path.{sym, ◌∙◌}
-use borrow.Author.Rules.{rules}
-use Rattle.form_bytes.proofs.Forms.{short_form, feed_refused, fed_count, feed_taken}
+-- Too few bytes, a fragment that is refused, and one that is taken. Assumes nothing.
+use mathlib.Core.Path.{refl, ◌∙◌}
+use Rattle.error.proofs.Answers.{says_refused, same_code, same_value, refusal_refuses}
+use Rattle.form_bytes.proofs.Forms.{no_form, feed_refused, fed_count, feed_taken, room_again}
 use Rattle.form_bytes.proofs.feed_form.Goals as goal
 
-pub returns-then-bytes-lt-FORM_BYTES-clause-fed : goal.returns-then-bytes-lt-FORM_BYTES-clause-fed
-returns-then-bytes-lt-FORM_BYTES-clause-fed c = let a = c.args in
-    let told = short_form a.bytes.now a.fragment.now a.out.now c.if-bytes-lt-FORM_BYTES.true in told.0
+pub returns-in_err-form : goal.returns-in_err-form
+returns-in_err-form c =
+    let a = c.args in
+    let why = c.in_err-form.field-0.0 in
+    let told = no_form a.bytes.now a.fragment.now a.out.now why (same_code c.in_err-form.ensures) in
+    record {
+      fed = says_refused 0 why c.from_residual.result c.from_residual.ensures.1 ∙ told.0;
+      form = told.1.0;
+      back = told.1.1.0;
+      room = told.1.1.1;
+    }
 
-pub returns-then-bytes-lt-FORM_BYTES-clause-form : goal.returns-then-bytes-lt-FORM_BYTES-clause-form
-returns-then-bytes-lt-FORM_BYTES-clause-form c = let a = c.args in
-    let told = short_form a.bytes.now a.fragment.now a.out.now c.if-bytes-lt-FORM_BYTES.true in told.1.0
-
-pub returns-then-bytes-lt-FORM_BYTES-clause-back : goal.returns-then-bytes-lt-FORM_BYTES-clause-back
-returns-then-bytes-lt-FORM_BYTES-clause-back c = let a = c.args in
-    let told = short_form a.bytes.now a.fragment.now a.out.now c.if-bytes-lt-FORM_BYTES.true in told.1.1.0
-
-pub returns-then-bytes-lt-FORM_BYTES-clause-room : goal.returns-then-bytes-lt-FORM_BYTES-clause-room
-returns-then-bytes-lt-FORM_BYTES-clause-room c = let a = c.args in
-    let told = short_form a.bytes.now a.fragment.now a.out.now c.if-bytes-lt-FORM_BYTES.true in told.1.1.1
+pub returns-in_err-records : goal.returns-in_err-records
+returns-in_err-records c =
+    let a = c.args in
+    let read = c.in_ok-form.ensures in
+    let why = c.in_err-records.field-0.0 in
+    let told = feed_refused a.bytes.now a.fragment.now a.out.now (same_code read) (same_value read) c.in_err-records.ensures.form
+    c.in_err-records.ensures.room (refusal_refuses why) in
+    record {
+      fed = says_refused 0 why c.from_residual-in_err-records.result c.from_residual-in_err-records.ensures.1 ∙ told.0;
+      form = told.1.0;
+      back = told.1.1.0;
+      room = told.1.1.1;
+    }
 
 pub put_form-requires : goal.put_form-requires
 put_form-requires c =
     let a = c.args in
-    let fine = sym c.is_ok.ensures ∙ c.if-is_ok.true in (
-      search rules,
-      fed_count a.bytes.now a.fragment.now a.out.now c.if-bytes-lt-FORM_BYTES.false _ c.feed-fed.result _ c.form_of-before.ensures
-          c.feed-fed.ensures.form c.feed-fed.ensures.room fine,
-    )
+    let read = c.in_ok-form.ensures in
+    fed_count a.bytes.now a.fragment.now a.out.now (same_code read) (same_value read) c.in_ok-records.ensures.form
+    c.in_ok-records.ensures.room refl
 
-pub returns-then-is_ok-clause-fed : goal.returns-then-is_ok-clause-fed
-returns-then-is_ok-clause-fed c =
+pub returns-in_err-put_form : goal.returns-in_err-put_form
+returns-in_err-put_form c =
     let a = c.args in
-    let fine = sym c.is_ok.ensures ∙ c.if-is_ok.true in
-    let told = feed_taken a.bytes.now a.fragment.now a.out.now c.if-bytes-lt-FORM_BYTES.false _ c.feed-fed.result _ c.form_of-before.ensures
-    c.feed-fed.ensures.form c.feed-fed.ensures.room fine _ c.put_form.ensures.room c.put_form.ensures.back in told.0
+    let put = c.in_err-put_form in
+    absurd (room_again a.bytes.now a.fragment.now a.out.now (same_code c.in_ok-form.ensures) put.field-0.0 put.ensures.code)
 
-pub returns-then-is_ok-clause-form : goal.returns-then-is_ok-clause-form
-returns-then-is_ok-clause-form c =
+pub returns : goal.returns
+returns c =
     let a = c.args in
-    let fine = sym c.is_ok.ensures ∙ c.if-is_ok.true in
-    let told = feed_taken a.bytes.now a.fragment.now a.out.now c.if-bytes-lt-FORM_BYTES.false _ c.feed-fed.result _ c.form_of-before.ensures
-    c.feed-fed.ensures.form c.feed-fed.ensures.room fine _ c.put_form.ensures.room c.put_form.ensures.back in told.1.0
-
-pub returns-then-is_ok-clause-back : goal.returns-then-is_ok-clause-back
-returns-then-is_ok-clause-back c =
-    let a = c.args in
-    let fine = sym c.is_ok.ensures ∙ c.if-is_ok.true in
-    let told = feed_taken a.bytes.now a.fragment.now a.out.now c.if-bytes-lt-FORM_BYTES.false _ c.feed-fed.result _ c.form_of-before.ensures
-    c.feed-fed.ensures.form c.feed-fed.ensures.room fine _ c.put_form.ensures.room c.put_form.ensures.back in told.1.1.0
-
-pub returns-then-is_ok-clause-room : goal.returns-then-is_ok-clause-room
-returns-then-is_ok-clause-room c =
-    let a = c.args in
-    let fine = sym c.is_ok.ensures ∙ c.if-is_ok.true in
-    let told = feed_taken a.bytes.now a.fragment.now a.out.now c.if-bytes-lt-FORM_BYTES.false _ c.feed-fed.result _ c.form_of-before.ensures
-    c.feed-fed.ensures.form c.feed-fed.ensures.room fine _ c.put_form.ensures.room c.put_form.ensures.back in told.1.1.1
-
-pub returns-else-is_ok-clause-fed : goal.returns-else-is_ok-clause-fed
-returns-else-is_ok-clause-fed c =
-    let a = c.args in
-    let told = feed_refused a.bytes.now a.fragment.now a.out.now c.if-bytes-lt-FORM_BYTES.false _ c.feed-fed.result _ c.form_of-before.ensures
-    c.feed-fed.ensures.form c.feed-fed.ensures.room (sym c.is_ok.ensures ∙ c.if-is_ok.false) in told.0
-
-pub returns-else-is_ok-clause-form : goal.returns-else-is_ok-clause-form
-returns-else-is_ok-clause-form c =
-    let a = c.args in
-    let told = feed_refused a.bytes.now a.fragment.now a.out.now c.if-bytes-lt-FORM_BYTES.false _ c.feed-fed.result _ c.form_of-before.ensures
-    c.feed-fed.ensures.form c.feed-fed.ensures.room (sym c.is_ok.ensures ∙ c.if-is_ok.false) in told.1.0
-
-pub returns-else-is_ok-clause-back : goal.returns-else-is_ok-clause-back
-returns-else-is_ok-clause-back c =
-    let a = c.args in
-    let told = feed_refused a.bytes.now a.fragment.now a.out.now c.if-bytes-lt-FORM_BYTES.false _ c.feed-fed.result _ c.form_of-before.ensures
-    c.feed-fed.ensures.form c.feed-fed.ensures.room (sym c.is_ok.ensures ∙ c.if-is_ok.false) in told.1.1.0
-
-pub returns-else-is_ok-clause-room : goal.returns-else-is_ok-clause-room
-returns-else-is_ok-clause-room c =
-    let a = c.args in
-    let told = feed_refused a.bytes.now a.fragment.now a.out.now c.if-bytes-lt-FORM_BYTES.false _ c.feed-fed.result _ c.form_of-before.ensures
-    c.feed-fed.ensures.form c.feed-fed.ensures.room (sym c.is_ok.ensures ∙ c.if-is_ok.false) in told.1.1.1
+    let read = c.in_ok-form.ensures in
+    let put = c.in_ok-put_form.ensures in
+    let told = feed_taken a.bytes.now a.fragment.now a.out.now (same_code read) (same_value read) c.in_ok-records.ensures.form
+    c.in_ok-records.ensures.room refl _ put.room put.back in
+    record { fed = told.0; form = told.1.0; back = told.1.1.0; room = told.1.1.1 }

@@ -1,11 +1,11 @@
 -- Enough bytes for a form are enough for a machine. Assumes nothing.
-use native.Mathlib.Omega.{arith}
-use borrow.Author.Rules.{rules}
-use Rattle.form_bytes.proofs.Forms.{read_machine, read_form}
+use Rattle.form_bytes.proofs.Stores.{no_refusal, form_read}
 use Rattle.form_bytes.proofs.form_of.Goals as goal
+
+pub returns-in_err-machine : goal.returns-in_err-machine
+returns-in_err-machine c =
+    absurd (no_refusal c.args.bytes.now c.if-bytes-lt-FORM_BYTES.false c.in_err-machine.field-0.0 c.in_err-machine.ensures)
 
 pub returns : goal.returns
 returns c =
-    let bytes = c.args.bytes.now in
-    let made = c.machine_of-made in
-    read_form bytes (read_machine bytes (omega arith) made.result made.ensures) c.pending_of-pending.ensures c.number-count.ensures
+    form_read c.args.bytes.now c.if-bytes-lt-FORM_BYTES.false c.in_ok-machine.ensures c.copy_from_slice.ensures.after c.from.ensures

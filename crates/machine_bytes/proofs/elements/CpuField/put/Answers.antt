@@ -14,7 +14,9 @@ returns-clause-room c =
     let a = c.args in
     let fits : SFits w32 a.self.run.priority = search rules in
     let same = to_z-of_z w32 a.self.run.priority fits in
-    let number : c.map.result ≡ tag_of_current a.self.run.current = is_mapped (λ (x : ThreadId). x.0) a.self.run.current c.map.result c.map.ensures.cases (λ x n told. search rules) in
+    let number : c.map.result ≡ tag_of_current a.self.run.current =
+    is_mapped (λ (x : ThreadId). x.0) a.self.run.current c.map.result c.map.ensures.cases
+    (λ x n told. search rules) in
     cpu_stored a.self a.out.now a.at c.map.result number c.put.ensures.room c.put-2.ensures.room (rw same at c.put-3.ensures.room)
     c.put-4.ensures.room
 
@@ -23,5 +25,7 @@ returns-clause-back c =
     let a = c.args in
     let fits : SFits w32 a.self.run.priority = search rules in
     let same = to_z-of_z w32 a.self.run.priority fits in
-    let number : c.map.result ≡ tag_of_current a.self.run.current = is_mapped (λ (x : ThreadId). x.0) a.self.run.current c.map.result c.map.ensures.cases (λ x n told. search rules) in
+    let number : c.map.result ≡ tag_of_current a.self.run.current =
+    is_mapped (λ (x : ThreadId). x.0) a.self.run.current c.map.result c.map.ensures.cases
+    (λ x n told. search rules) in
     cpu_back a.self c.put.ensures.back (rw number at c.put-2.ensures.back) (rw same at c.put-3.ensures.back) c.put-4.ensures.back

@@ -12,6 +12,8 @@ pub returns : goal.returns
 returns c =
     let a = c.args in
     let p = c.read-priority in
-    let current : c.map-current.result ≡ current_of c.read.result = is_mapped (λ (n : ℕ). record { 0 = n }) c.read.result c.map-current.result c.map-current.ensures.cases (λ n x told. search rules) in
+    let current : c.map-current.result ≡ current_of c.read.result =
+    is_mapped (λ (n : ℕ). record { 0 = n }) c.read.result c.map-current.result c.map-current.ensures.cases
+    (λ n x told. search rules) in
     cpu_read _ a.bytes.now a.at c.read-active.ensures (current ∙ ap current_of c.read.ensures)
     (to_z-of_z w32 p.result (record { sfits = p.type_inv }) ∙ p.ensures) c.read-hold.ensures

@@ -14,7 +14,9 @@ returns-clause-room c =
     let a = c.args in
     let fits : SFits w32 a.self.priority = search rules in
     let same = to_z-of_z w32 a.self.priority fits in
-    let number : c.map.result ≡ tag_of_place a.self.place = is_mapped (λ (x : CpuId). x.0) a.self.place c.map.result c.map.ensures.cases (λ x n told. search rules) in
+    let number : c.map.result ≡ tag_of_place a.self.place =
+    is_mapped (λ (x : CpuId). x.0) a.self.place c.map.result c.map.ensures.cases
+    (λ x n told. search rules) in
     thread_stored a.self a.out.now a.at c.map.result number c.put.ensures.room (rw same at c.put-2.ensures.room) c.put-3.ensures.room
 
 pub returns-clause-back : goal.returns-clause-back
@@ -22,5 +24,7 @@ returns-clause-back c =
     let a = c.args in
     let fits : SFits w32 a.self.priority = search rules in
     let same = to_z-of_z w32 a.self.priority fits in
-    let number : c.map.result ≡ tag_of_place a.self.place = is_mapped (λ (x : CpuId). x.0) a.self.place c.map.result c.map.ensures.cases (λ x n told. search rules) in
+    let number : c.map.result ≡ tag_of_place a.self.place =
+    is_mapped (λ (x : CpuId). x.0) a.self.place c.map.result c.map.ensures.cases
+    (λ x n told. search rules) in
     thread_back a.self c.put.ensures.back (rw same at c.put-2.ensures.back) (rw number at c.put-3.ensures.back)

@@ -12,6 +12,8 @@ pub returns : goal.returns
 returns c =
     let a = c.args in
     let p = c.read-priority in
-    let place : c.map-place.result ≡ place_of c.read.result = is_mapped (λ (n : ℕ). record { 0 = n }) c.read.result c.map-place.result c.map-place.ensures.cases (λ n x told. search rules) in
+    let place : c.map-place.result ≡ place_of c.read.result =
+    is_mapped (λ (n : ℕ). record { 0 = n }) c.read.result c.map-place.result c.map-place.ensures.cases
+    (λ n x told. search rules) in
     thread_read _ a.bytes.now a.at c.read-mask.ensures (to_z-of_z w32 p.result (record { sfits = p.type_inv }) ∙ p.ensures)
     (place ∙ ap place_of c.read.ensures)
