@@ -147,14 +147,6 @@ struct Fields {
     b: u32,
 }
 
-// The number in the four bytes from a place on.
-fn word_at(bytes: &[u8], at: usize) -> u32
-    requires { at + 4 ≤ length bytes.now }
-    ensures { result ≡ from_high_first (take 4 (drop at bytes.now)) }
-{
-    high_first::join(bytes[at], bytes[at + 1], bytes[at + 2], bytes[at + 3])
-}
-
 // The fields of a record.
 #[tactic(auto, unfolding(crate::specs::Record::fields_of))]
 fn fields_of(bytes: &[u8]) -> Fields
@@ -167,8 +159,8 @@ fn fields_of(bytes: &[u8]) -> Fields
         thread: u32::from(bytes[1]),
         lock: u32::from(bytes[2]),
         zero: u32::from(bytes[3]),
-        a: word_at(bytes, 4),
-        b: word_at(bytes, 8),
+        a: high_first::word_at(bytes, 4).unwrap_or(0),
+        b: high_first::word_at(bytes, 8).unwrap_or(0),
     }
 }
 
