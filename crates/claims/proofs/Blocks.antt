@@ -4,11 +4,17 @@ use mathlib.Core.Path.{◌≡◌, refl, ap, ap₂, sym, ◌∙◌}
 use mathlib.Core.Bool.{true}
 use mathlib.Core.List.{List, [], ◌∷◌, ◌++◌}
 use Prim.Native.Nat.{ℕ, zero, suc, ◌+◌, ◌-◌, ◌*◌, ◌/◌, ◌≤◌, ◌<◌}
-use native.Mathlib.Nat.{add-mul, add-sub_cancel_left}
 use native.Mathlib.Omega.{arith}
-use lib.ListN.{length, take, drop, length-drop, take-append-drop}
+use lib.Dec.{ltb}
+use lib.ListN.{length, take, drop, length-append, length-drop, take-append-drop}
 use lib.Seq.{length-take-le, take_at, drop_at, take-take, drop-drop}
+use lib.IntN.{ℤ}
+use borrow.Author.Tests.{ltb-true, ltb-false}
+use Rattle.std.specs.Prelude.{min}
+use Rattle.std.proofs.lemmas.List.{nil_from_length}
+use Rattle.words.proofs.Choice.{bool_ind}
 use Rattle.error.specs.Codes.{OK}
+use Rattle.error.specs.Answer.{answer}
 use Rattle.error.proofs.Answers.{same_value}
 use Rattle.machine.specs.declared.Machine.{Machine}
 use Rattle.wellformed.specs.WellFormed.{well_formed}
@@ -18,8 +24,7 @@ use Rattle.operations.specs.Log.{state_at}
 use Rattle.operations.proofs.Lengths.{Lengths}
 use Rattle.operations.proofs.Pieces.{state_pieces, state_alone}
 use Rattle.kept.proofs.Laws.{states_keep}
-use Rattle.runner.specs.declared.Ran.{Ran}
-use Rattle.runner.specs.Run.{ran_says, answers_of, room_at, ran, ran_room}
+use Rattle.runner.specs.Run.{answers_of, room_at, ran, ran_room}
 use Rattle.runner.proofs.Answers.{answers_length, answers_pieces, room_is}
 use Rattle.claims.specs.Claims.{answer_in}
 
@@ -71,12 +76,26 @@ answer_in_part bytes a b i h =
     let on : a * 8 + i * 8 ≡ (a + i) * 8 = omega arith in
     answer_in_front (drop (a * 8) bytes) b i h ∙ ap (take 8) (drop-drop (i * 8) (a * 8) bytes) ∙ ap (λ n. take 8 (drop n bytes)) on
 
--- The parts of a log and of a claim that are lent for a block.
-pub lent_part : (size : ℕ) (l : List ℕ) (done block : ℕ) → take ((done + block) * size - done * size) (drop (done * size) l)
-    ≡ take (block * size) (drop (done * size) l)
-lent_part size l done block =
-    ap (λ n. take n (drop (done * size) l))
-    (ap (λ n. n - done * size) (add-mul done block size) ∙ add-sub_cancel_left (done * size) (block * size))
+-- A chunk that is cut off what is left of a list from a place on.
+module _ (size at : ℕ) (whole rest x left : List ℕ) (here : rest ≡ drop at whole) (cut : rest ≡ x ++ left)
+    (long : length x ≡ min size (length rest)) where
+  pub taken : (k : ℕ) → k ≤ length x → take k x ≡ take k (drop at whole)
+  taken k within =
+      ap (take k) (sym (take_at x left (length x) refl) ∙ ap (take (length x)) (sym cut ∙ here))
+      ∙ take-take k (length x) (drop at whole) within
+
+  pub behind : left ≡ drop (at + size) whole
+  behind =
+      let both : length rest ≡ length x + length left = ap length cut ∙ length-append x left in
+      let more : length rest ≡ length whole - at = ap length here ∙ length-drop at whole in
+      bool_ind (λ _. left ≡ drop (at + size) whole) (ltb (length x) size)
+      (λ e.
+      let short = ltb-true (length x) size e in
+      nil_from_length left (omega (arith, both, long, short))
+      ∙ sym (nil_from_length (drop (at + size) whole) (omega (arith, both, more, long, short, length-drop (at + size) whole))))
+      (λ e.
+      let full : length x ≡ size = omega (arith, long, ltb-false (length x) size e) in
+      sym (drop_at x left size full) ∙ ap (drop size) (sym cut ∙ here) ∙ drop-drop size at whole)
 
 -- A block's records, on the machine after the `done` records before them.
 module _ (m : Machine) (lengths : Lengths m) (good : well_formed m ≡ true) (log : List ℕ) (short : length log ≤ 24576)
@@ -127,11 +146,11 @@ module _ (m : Machine) (lengths : Lengths m) (good : well_formed m ≡ true) (lo
         ∙ take_at (answers_of here part block) (drop (block * 8) room) (block * 8) (answers_length here part block)
         ∙ answers_there)
 
-    pub block_run : {now : Machine} {lent out : List ℕ} → now ≡ here → lent ≡ part → (r : Ran)
-        → ran_says r ≡ ran now lent (length room) → out ≡ ran_room now lent room
-        → (r.machine ≡ state_at m log (done + block))
+    pub block_run : {now : Machine} {lent out : List ℕ} → now ≡ here → lent ≡ part → {code : ℤ} {end : Machine}
+        → answer code end ≡ ran now lent (length room) → out ≡ ran_room now lent room
+        → (end ≡ state_at m log (done + block))
         × (take (block * 8) out ≡ take (block * 8) (drop (done * 8) (answers_of m log (length log / 12))))
-    block_run state is r says wrote = (
+    block_run state is says wrote = (
       same_value says ∙ ap₂ (λ x l. (ran x l (length room)).value) state is ∙ state_run,
       ap (take (block * 8)) (wrote ∙ ap₂ (λ x l. ran_room x l room) state is) ∙ answers_run,
     )

@@ -6,13 +6,12 @@
 
 #![tactic(auto)]
 
-ghost use Rattle.std.specs.Prelude.{◌≡◌, true, ◌*◌, ◌/◌, ◌≤◌, ◌<◌, length, take};
+ghost use Rattle.std.specs.Prelude.{◌≡◌, true, ◌*◌, ◌/◌, ◌≤◌, ◌<◌, length, MatchOption};
 ghost use Rattle.error.specs.Codes.{number_of};
 ghost use Rattle.wellformed.specs.WellFormed.{well_formed};
 ghost use Rattle.log_tests.specs.RunCode.{run_code};
 ghost use Rattle.claims.specs.Claims.{
   verdict_says,
-  same,
   lowest,
   differing,
   lowest_wrong,
@@ -22,130 +21,82 @@ ghost use Rattle.claims.specs.Claims.{
 };
 
 use answers::ANSWER_BYTES;
-use error::Code;
+use error::Refusal;
 use machine::Machine;
 use record::RECORD_BYTES;
 
 // The records of a block, of which the longest log has two, and the room for their answers.
 const BLOCK_RECORDS: usize = 1024;
 
-const BLOCK_BYTES: usize = 8192;
+const BLOCK_BYTES: usize = BLOCK_RECORDS * ANSWER_BYTES;
 
-// The outcome of a check: the whole claim is right, this is the lowest record with another answer, or this code keeps it from being judged.
-#[derive(Clone, Copy)]
-pub enum Verdict {
-    Right,
-    Differs(u32),
-    Refused(Code),
-}
-
-// Whether one string of bytes is the front of another. All of its bytes are compared, so that the compiler takes many at once.
-fn is_front(front: &[u8], bytes: &[u8]) -> bool
-    requires { length front.now ≤ length bytes.now }
-    ensures { result ≡ same front.now (take (length front.now) bytes.now) }
+// The lowest record whose claimed answer is not the right one, if there is one.
+fn lowest_differing(claimed: &[u8], right: &[u8]) -> Option<usize>
+    requires { length claimed.now ≤ length right.now }
+    ensures { let records = length claimed.now / 8 in
+        let found = lowest (differing claimed.now right.now) records in
+        MatchOption result (found ≡ records) (λ k. (k ≡ found) × (k < records)) }
 {
-    let mut all = true;
-    for i in 0..front.len() {
-        all = all & (front[i] == bytes[i]);
-    }
-    all
+    let (claimed, _) = claimed.as_chunks::<ANSWER_BYTES>();
+    let (right, _) = right.as_chunks::<ANSWER_BYTES>();
+    claimed
+        .iter()
+        .zip(right)
+        .position(|(claimed, right)| claimed != right)
 }
 
-// The lowest record whose claimed answer is not the right one; the number of records where there is none.
-fn lowest_differing(claimed: &[u8], right: &[u8], records: usize) -> usize
-    requires { (records * 8 ≤ length claimed.now) × (records * 8 ≤ length right.now) × (records ≤ 1024) }
-    ensures lowest { result ≡ lowest (differing claimed.now right.now) records }
-    ensures within { result ≤ records }
-{
-    for k in 0..records {
-        let at = k * ANSWER_BYTES;
-        let end = at + ANSWER_BYTES;
-        if !is_front(&claimed[at..end], &right[at..]) {
-            return k;
-        }
-    }
-    records
-}
-
-// How many records the next block has, with so many left.
-fn block_size(left: usize) -> usize
-    requires { 0 < left }
-    ensures { (0 < result) × (result ≤ left) × (result ≤ 1024) }
-{
-    if left < BLOCK_RECORDS {
-        left
-    } else {
-        BLOCK_RECORDS
-    }
-}
-
-// The lowest record of a log whose claimed answer is wrong; the number of records where there is none.
-fn lowest_wrong(mut m: Machine, log: &[u8], claim: &[u8]) -> usize
+// The lowest record of a log whose claimed answer is wrong, if there is one.
+fn lowest_wrong(mut m: Machine, log: &[u8], claim: &[u8]) -> Option<u32>
     requires formed { well_formed m ≡ true }
     requires short_log { length log.now ≤ 24576 }
     requires claim_fits { length claim.now ≡ length log.now / 12 * 8 }
-    ensures { result ≡ lowest_wrong m log.now claim.now }
+    ensures { let records = length log.now / 12 in
+        let found = lowest_wrong m log.now claim.now in
+        MatchOption result (found ≡ records) (λ k. (k ≡ found) × (k < records)) }
 {
-    let count = log.len() / RECORD_BYTES;
-    let mut done: usize = 0;
-    while done < count {
-        let block = block_size(count - done);
-        let next = done + block;
-        let mut room = [0u8; BLOCK_BYTES];
-        let ran = runner::run(m, &log[done * RECORD_BYTES..next * RECORD_BYTES], &mut room);
-        let claimed = &claim[done * ANSWER_BYTES..next * ANSWER_BYTES];
-        if !is_front(claimed, &room) {
-            return done + lowest_differing(claimed, &room, block);
+    let mut room = [0; BLOCK_BYTES];
+    let blocks = log
+        .chunks(BLOCK_RECORDS * RECORD_BYTES)
+        .zip(claim.chunks(BLOCK_BYTES));
+    for (block, (records, claimed)) in blocks.enumerate() {
+        let whole = claimed.len() / ANSWER_BYTES * RECORD_BYTES;
+        let _ = runner::run(&mut m, &records[..whole], &mut room);
+        if let Some(k) = lowest_differing(claimed, &room) {
+            return Some((block * BLOCK_RECORDS + k) as u32);
         }
-        let after = ran.machine;
-        m = after;
-        done = next;
     }
-    count
+    None
 }
 
 // The code of a log of this size and a claim of this size: what the runner refuses, and then a claim with another number of answers.
-fn size_code(size: usize, claimed: usize) -> Code
+fn size_code(size: usize, claimed: usize) -> Result<(), Refusal>
     ensures { number_of result ≡ claim_tested (run_code true size (size / 12 * 8)) size claimed }
 {
     let answers = size / RECORD_BYTES * ANSWER_BYTES;
-    let refused = log_tests::run_code(true, size, answers);
-    if !error::is_ok(refused) {
-        return refused;
+    log_tests::run_code(true, size, answers)?;
+    if claimed == answers {
+        Ok(())
+    } else {
+        Err(Refusal::Einval)
     }
-    if claimed != answers {
-        return Code::Einval;
-    }
-    Code::Ok
 }
 
-// A claim to a log on the machine that a setup byte asks for.
-pub fn check(setup: u8, log: &[u8], claim: &[u8]) -> Verdict
+// A claim to a log on the machine that a setup byte asks for: the lowest record whose answer differs, if there is one. A refusal keeps the claim
+// from being judged.
+pub fn check(setup: u8, log: &[u8], claim: &[u8]) -> Result<Option<u32>, Refusal>
     ensures { verdict_says result ≡ judged setup log.now claim.now }
 {
-    let made = machine::from_setup_byte(setup);
-    let refused = made.code;
-    if !error::is_ok(refused) {
-        return Verdict::Refused(refused);
-    }
-    let code = size_code(log.len(), claim.len());
-    if !error::is_ok(code) {
-        return Verdict::Refused(code);
-    }
-    let machine = made.machine;
-    let wrong = lowest_wrong(machine, log, claim);
-    if wrong < log.len() / RECORD_BYTES {
-        return Verdict::Differs(wrong as u32);
-    }
-    Verdict::Right
+    let machine = machine::from_setup_byte(setup)?;
+    size_code(log.len(), claim.len())?;
+    Ok(lowest_wrong(machine, log, claim))
 }
 
 // A claim to an input of the program: a setup byte, or none, and the log behind it.
-pub fn check_input(input: &[u8], claim: &[u8]) -> Verdict
+pub fn check_input(input: &[u8], claim: &[u8]) -> Result<Option<u32>, Refusal>
     ensures { verdict_says result ≡ judged_input input.now claim.now }
 {
-    if input.len() == 0 {
-        return Verdict::Refused(Code::Einval);
-    }
-    check(input[0], &input[1..], claim)
+    let Some((setup, log)) = input.split_first() else {
+        return Err(Refusal::Einval);
+    };
+    check(*setup, log, claim)
 }

@@ -1,80 +1,31 @@
 -- Each return by the tests before it (`Cases`). Assumes nothing.
-use mathlib.Core.Path.{sym, ◌∙◌}
-use borrow.Author.Rules.{rules}
-use borrow.Author.Tests.{not-true, not-false}
-use Rattle.error.proofs.Answers.{same_value}
-use Rattle.claims.proofs.Cases.{is_refused, is_wrong, is_right, setup_code, log_code, made_formed, log_short, claim_length}
+use mathlib.Core.Path.{◌∙◌}
+use Rattle.claims.proofs.Cases.{verdict_refused, bad_setup, bad_size, made_formed, found_says, log_short}
 use Rattle.claims.proofs.check.Goals as goal
 
-pub returns-then-not-is_ok : goal.returns-then-not-is_ok
-returns-then-not-is_ok c =
-    let a = c.from_setup_byte-made in
-    let log = c.args.log.now in
-    let claim = c.args.claim.now in
-    let bad = sym c.is_ok.ensures ∙ c.if-not-is_ok.true in
-    is_refused c.args.setup log claim (setup_code c.args.setup log claim a.result a.ensures bad) bad
+pub returns-in_err-machine : goal.returns-in_err-machine
+returns-in_err-machine c =
+    let a = c.args in
+    let why = c.in_err-machine.field-0.0 in
+    verdict_refused why c.from_residual.result c.from_residual.ensures.1 ∙ bad_setup a.setup a.log.now a.claim.now why c.in_err-machine.ensures
 
-pub returns-then-not-is_ok-2 : goal.returns-then-not-is_ok-2
-returns-then-not-is_ok-2 c =
-    let z = c.size_code-code in
-    let a = c.from_setup_byte-made in
-    let log = c.args.log.now in
-    let claim = c.args.claim.now in
-    let good = sym c.is_ok.ensures ∙ c.if-not-is_ok.false in
-    let bad = sym c.is_ok-2.ensures ∙ c.if-not-is_ok-2.true in
-    is_refused c.args.setup log claim (log_code c.args.setup log claim a.result a.ensures good z.ensures) bad
+pub returns-in_err-size_code : goal.returns-in_err-size_code
+returns-in_err-size_code c =
+    let a = c.args in
+    let why = c.in_err-size_code.field-0.0 in
+    let from = c.from_residual-in_err-size_code in
+    verdict_refused why from.result from.ensures.1
+    ∙ bad_size a.setup a.log.now a.claim.now c.in_ok-machine.ensures why c.in_err-size_code.ensures
 
-pub lowest_wrong-wrong-requires-clause-formed : goal.lowest_wrong-wrong-requires-clause-formed
-lowest_wrong-wrong-requires-clause-formed c =
-    let z = c.size_code-code in
-    let a = c.from_setup_byte-made in
-    let log = c.args.log.now in
-    let claim = c.args.claim.now in
-    let fine = sym c.is_ok-2.ensures ∙ c.if-not-is_ok-2.false in
-    let formed = made_formed c.args.setup log claim a.result a.ensures in
-    formed
+pub lowest_wrong-requires-clause-formed : goal.lowest_wrong-requires-clause-formed
+lowest_wrong-requires-clause-formed c =
+    let a = c.args in
+    made_formed a.setup a.log.now a.claim.now c.in_ok-machine.ensures
 
-pub lowest_wrong-wrong-requires-clause-short_log : goal.lowest_wrong-wrong-requires-clause-short_log
-lowest_wrong-wrong-requires-clause-short_log c =
-    let z = c.size_code-code in
-    let a = c.from_setup_byte-made in
-    let log = c.args.log.now in
-    let claim = c.args.claim.now in
-    let fine = sym c.is_ok-2.ensures ∙ c.if-not-is_ok-2.false in
-    let formed = made_formed c.args.setup log claim a.result a.ensures in
-    log_short log claim z.ensures fine
-
-pub overflow_cast-result : goal.overflow_cast-result
-overflow_cast-result c =
-    let z = c.size_code-code in
-    let log = c.args.log.now in
-    let claim = c.args.claim.now in
-    let fine = sym c.is_ok-2.ensures ∙ c.if-not-is_ok-2.false in
-    let short = log_short log claim z.ensures fine in
-    search (rules, short)
-
-pub returns-then-wrong-log : goal.returns-then-wrong-log
-returns-then-wrong-log c =
-    let f = c.if-not-is_ok-2.false-raw in
-    let z = c.size_code-code in
-    let a = c.from_setup_byte-made in
-    let log = c.args.log.now in
-    let claim = c.args.claim.now in
-    let good = sym c.is_ok.ensures
-    ∙ c.if-not-is_ok.false in
-    let fine = sym c.is_ok-2.ensures ∙ not-false _ f in
-    is_wrong c.args.setup log claim (log_code c.args.setup log claim a.result a.ensures good z.ensures) fine
-    (same_value a.ensures) c.lowest_wrong-wrong.ensures c.if-wrong-log.true
+pub lowest_wrong-requires-clause-short_log : goal.lowest_wrong-requires-clause-short_log
+lowest_wrong-requires-clause-short_log c = log_short c.args.log.now c.args.claim.now c.in_ok-size_code.ensures
 
 pub returns : goal.returns
 returns c =
-    let f = c.if-not-is_ok-2.false-raw in
-    let z = c.size_code-code in
-    let a = c.from_setup_byte-made in
-    let log = c.args.log.now in
-    let claim = c.args.claim.now in
-    let good = sym c.is_ok.ensures
-    ∙ c.if-not-is_ok.false in
-    let fine = sym c.is_ok-2.ensures ∙ not-false _ f in
-    is_right c.args.setup log claim (log_code c.args.setup log claim a.result a.ensures good z.ensures) fine
-    (same_value a.ensures) c.lowest_wrong-wrong.ensures c.if-wrong-log.false
+    let a = c.args in
+    found_says a.setup a.log.now a.claim.now c.in_ok-machine.ensures c.in_ok-size_code.ensures c.lowest_wrong.result c.lowest_wrong.ensures

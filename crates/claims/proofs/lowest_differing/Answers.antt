@@ -1,33 +1,18 @@
--- The loop's invariant: no answer before the k-th differs. Assumes nothing.
-use mathlib.Core.Path.{◌≡◌, sym, ◌∙◌, subst}
-use Prim.Native.Nat.{◌-◌, ◌≤◌}
-use native.Mathlib.Numerals.{add-one}
-use native.Mathlib.Omega.{arith}
-use borrow.Author.Rules.{rules}
-use Rattle.claims.specs.Claims.{differing}
-use Rattle.claims.proofs.Lowest.{NoneBelow, one_more, is_lowest, none_passes}
-use Rattle.claims.proofs.Bytes.{lent_fits, lent_differ}
+-- The pairs of answers are the chunks of the two strings side by side, and `position` finds the first that differs (`Bytes`). Assumes nothing.
+use Rattle.std.proofs.Common.{◌/◌, ◌≤◌, length, rules, tests, arith}
+use Rattle.std.proofs.lemmas.Iterator.{YieldsList-from_slice, YieldsList-from_zip}
+use Rattle.std.proofs.lemmas.Iterator.Search.{position_from_yields_List}
+use Rattle.claims.proofs.Bytes.{differ, place_says}
 use Rattle.claims.proofs.lowest_differing.Goals as goal
 
-pub returns-then-not-is_front-clause-lowest : goal.returns-then-not-is_front-clause-lowest
-returns-then-not-is_front-clause-lowest c =
-    let L = c.loop-k in
+pub returns : goal.returns
+returns c =
     let a = c.args.claimed.now in
     let b = c.args.right.now in
-    let there = lent_differ a b L.k (omega arith) c.is_front.ensures ∙ c.if-not-is_front.true-raw in
-    is_lowest (differing a b) c.args.records L.k (record { within = L.invariant.0; none = L.invariant.1; there = λ _. there })
-
-pub loop-k-preserved : goal.loop-k-preserved
-loop-k-preserved c =
-    let L = c.loop-k in
-    let a = c.args.claimed.now in
-    let b = c.args.right.now in
-    let next = one_more (differing a b) L.k L.invariant.1 (lent_differ a b L.k (omega arith) c.is_front.ensures ∙ c.if-not-is_front.false-raw) in
-    (search rules, subst (NoneBelow (differing a b)) (sym (add-one L.k)) next)
-
-pub returns-clause-lowest : goal.returns-clause-lowest
-returns-clause-lowest c =
-    let L = c.loop-k in
-    let all : L.k ≡ c.args.records = search rules in
-    let differ = differing c.args.claimed.now c.args.right.now in
-    none_passes differ c.args.records (subst (NoneBelow differ) all L.invariant.1)
+    let xs = c.as_chunks.result.0.now in
+    let ys = c.as_chunks-2.result.0.now in
+    let more : length a / 8 ≤ length b / 8 = omega arith in
+    place_says a b (length a / 8) xs ys c.as_chunks.ensures.front (length b / 8) c.as_chunks-2.ensures.front more
+    c.as_chunks.ensures.front_len c.as_chunks-2.ensures.front_len c.position.result
+    (position_from_yields_List differ c.position.new.self _ c.position.result c.position.ensures.ran (YieldsList-from_zip (YieldsList-from_slice xs (cc)) (YieldsList-from_slice ys (cc)))
+    (λ x r q k. search (rules, tests)))
