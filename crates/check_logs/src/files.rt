@@ -1,10 +1,9 @@
 // A file by name, as far as a room holds it.
 //
 // A read that fails is told from the end of a file, so that what cannot be read never counts as empty. Every file that was opened is closed.
-use std::fmt;
 use std::fs::File;
-use std::io;
 use std::rt::Files;
+use std::{fmt, io};
 
 // The numbers of the system's errors that have words: no such file, and not allowed.
 const ENOENT: i32 = 2;
@@ -47,10 +46,7 @@ impl fmt::Display for NotThere {
 pub(crate) fn read(files: &impl Files, name: &[u8], room: &mut [u8]) -> Result<usize, NotThere> {
     let Ok(path) = str::from_utf8(name) else {
         let why = "the name is not UTF-8";
-        return Err(NotThere::NotOpened(io::Error::new(
-            io::ErrorKind::InvalidFilename,
-            why,
-        )));
+        return Err(NotThere::NotOpened(io::Error::new(io::ErrorKind::InvalidFilename, why)));
     };
     let mut file = File::open(files, path).map_err(NotThere::NotOpened)?;
     reading::fill(&mut file, room).map_err(|failed| NotThere::NotRead(failed.error))

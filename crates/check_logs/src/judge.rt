@@ -10,9 +10,8 @@ use machine::Setup;
 use program::MAX_ANSWER_BYTES;
 use reading::{byte_at, front_of, rest_of, word_at};
 use record::{Operation, RECORD_BYTES};
-use std::fmt;
-use std::io;
 use std::rt::Files;
+use std::{fmt, io};
 
 // Room for the longest input of replay, a setup byte and a log, and for its longest answers, and in each for one byte more, so that a longer file
 // shows.
@@ -62,7 +61,10 @@ impl<'a> fmt::Display for Answer<'a> {
 fn asked(input: &[u8], at: usize) -> Operation {
     let setup = Setup::try_from(byte_at(input, 0));
     match setup {
-        Ok(setup) => record::request_of(setup, front_of(rest_of(input, at), RECORD_BYTES)).operation,
+        Ok(setup) => record::request_of(
+            setup,
+            front_of(rest_of(input, at), RECORD_BYTES),
+        ).operation,
         Err(_) => Operation::Malformed,
     }
 }

@@ -88,7 +88,12 @@ fn run_arrived(f: &mut Form, fragment: &[u8], out: &mut [u8]) -> Result<(), Refu
 {
     let size = fragment.len();
     if !completes(f.count, size) {
-        return log_tests::feed_code(wellformed::well_formed(&f.machine), f.count, size, out.len());
+        return log_tests::feed_code(
+            wellformed::well_formed(&f.machine),
+            f.count,
+            size,
+            out.len(),
+        );
     }
     let count = f.count as usize;
     let first = padded(&f.pending[..count], fragment);

@@ -22,10 +22,7 @@ ghost use Rattle.kernel.specs.Calls.{
 
 mod run;
 
-use cpu_mask::PinMask;
-use error::Code;
 pub use run::hubcrackle_run;
-use spinlock_validate::Decoded;
 
 // The owner word of a thread on a CPU: 8 bytes.
 pub fn hubcrackle_spin_lock_compute_owner(
@@ -38,8 +35,7 @@ pub fn hubcrackle_spin_lock_compute_owner(
     ensures room { out.new ≡ call_room (compute_owner current_cpu_id current_thread wide) out.old }
 {
     let owner = owner_flags::compute_owner(current_cpu_id, current_thread, wide);
-    let code = owner.code;
-    lent_room::put_word(out, code, owner.word)
+    lent_room::put(out, owner)
 }
 
 // The thread and the CPU in an owner word: 8 bytes and 1, all zero for a free lock.
@@ -47,11 +43,7 @@ pub fn hubcrackle_spin_lock_decode_owner(thread_cpu: u64, wide: u32, out: &mut [
     ensures code { result ≡ call_code (decode_owner thread_cpu wide) (length out.old) }
     ensures room { out.new ≡ call_room (decode_owner thread_cpu wide) out.old }
 {
-    match owner_flags::decode_owner(thread_cpu, wide) {
-        Decoded::Free => lent_room::put_holder(out, Code::Ok, 0, 0),
-        Decoded::Held { thread, cpu } => lent_room::put_holder(out, Code::Ok, thread, cpu),
-        Decoded::BadWord => lent_room::put_holder(out, Code::Einval, 0, 0),
-    }
+    lent_room::put(out, owner_flags::decode_owner(thread_cpu, wide))
 }
 
 // Whether a CPU may go for the lock that has this word: 1 byte.
@@ -65,8 +57,7 @@ pub fn hubcrackle_spin_lock_valid(
     ensures room { out.new ≡ call_room (lock_valid thread_cpu current_cpu_id wide) out.old }
 {
     let lock = owner_flags::lock_valid(thread_cpu, current_cpu_id, wide);
-    let code = lock.code;
-    lent_room::put_yes_no(out, code, lock.yes)
+    lent_room::put(out, lock)
 }
 
 // Whether this thread on this CPU may unlock the lock that has this word: 1 byte.
@@ -81,12 +72,10 @@ pub fn hubcrackle_spin_unlock_valid(
     ensures room { out.new ≡ call_room (unlock_valid thread_cpu current_cpu_id current_thread wide) out.old }
 {
     let unlock = owner_flags::unlock_valid(thread_cpu, current_cpu_id, current_thread, wide);
-    let code = unlock.code;
-    lent_room::put_yes_no(out, code, unlock.yes)
+    lent_room::put(out, unlock)
 }
 
-// The mask with bits enabled and then disabled: 4 bytes. A refusal does not write the current mask. The two codes that the rule gives are told
-// apart by one test: a jump by the code costs more than the rule (docs/PERFORMANCE.md).
+// The mask with bits enabled and then disabled: 4 bytes. A refusal does not write the current mask.
 pub fn hubcrackle_cpu_mask_mod(
     current_mask: u32,
     enable: u32,
@@ -99,12 +88,7 @@ pub fn hubcrackle_cpu_mask_mod(
     ensures room { out.new ≡ call_room (mask_mod current_mask enable disable is_running pin_only) out.old }
 {
     let changed = mask_flags::mask_of_flags(current_mask, enable, disable, is_running, pin_only);
-    let code = changed.error;
-    if error::is_ok(code) {
-        lent_room::put_mask(out, Code::Ok, changed.mask)
-    } else {
-        lent_room::put_mask(out, Code::Einval, changed.mask)
-    }
+    lent_room::put(out, changed)
 }
 
 // Whether a mask names exactly one CPU: 1 byte.
@@ -112,7 +96,7 @@ pub fn hubcrackle_validate_pin_mask(mask: u32, out: &mut [u8]) -> i32
     ensures code { result ≡ call_code (pin_test mask) (length out.old) }
     ensures room { out.new ≡ call_room (pin_test mask) out.old }
 {
-    lent_room::put_yes_no(out, Code::Ok, cpu_mask::validate_pin_mask(mask))
+    lent_room::put(out, Ok(cpu_mask::validate_pin_mask(mask)))
 }
 
 // The mask of one CPU: 4 bytes.
@@ -120,10 +104,7 @@ pub fn hubcrackle_cpu_pin_compute(cpu_id: u32, max_cpus: u32, out: &mut [u8]) ->
     ensures code { result ≡ call_code (pin cpu_id max_cpus) (length out.old) }
     ensures room { out.new ≡ call_room (pin cpu_id max_cpus) out.old }
 {
-    match cpu_mask::cpu_pin_compute(cpu_id, max_cpus) {
-        PinMask::Only(mask) => lent_room::put_mask(out, Code::Ok, mask),
-        PinMask::BadCpu => lent_room::put_mask(out, Code::Einval, 0),
-    }
+    lent_room::put(out, cpu_mask::cpu_pin_compute(cpu_id, max_cpus))
 }
 
 // The mask of the CPUs to interrupt, from five bytes a CPU: 4 bytes.
@@ -147,8 +128,7 @@ pub fn hubcrackle_compute_ipi_mask(
         num_cpus,
         max_cpus,
     );
-    let code = ipi.code;
-    lent_room::put_mask(out, code, ipi.mask)
+    lent_room::put(out, ipi)
 }
 
 // Whether a mask can be one that was computed for this CPU: 1 byte.
@@ -161,7 +141,5 @@ pub fn hubcrackle_validate_ipi_mask(
     ensures code { result ≡ call_code (ipi_mask_test mask current_cpu max_cpus) (length out.old) }
     ensures room { out.new ≡ call_room (ipi_mask_test mask current_cpu max_cpus) out.old }
 {
-    let possible = ipi::validate_ipi_mask(mask, current_cpu, max_cpus);
-    let code = possible.code;
-    lent_room::put_yes_no(out, code, possible.yes)
+    lent_room::put(out, ipi::validate_ipi_mask(mask, current_cpu, max_cpus))
 }

@@ -7,6 +7,5 @@ pub fn hubcrackle_run(setup: u8, log: &[u8], out: &mut [u8]) -> i32
     ensures code { result ≡ code_from_setup setup log.now (length out.old) }
     ensures room { out.new ≡ room_from_setup setup log.now out.old }
 {
-    let code = setup_run::run_from_setup(setup, log, out);
-    error::number(code)
+    error::number(setup_run::run_from_setup(setup, log, out))
 }

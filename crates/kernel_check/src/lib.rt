@@ -10,24 +10,22 @@ ghost use Rattle.std.specs.Prelude.{◌≡◌};
 ghost use Rattle.claims.specs.Claims.{judged};
 ghost use Rattle.kernel_check.specs.Call.{result_of, record_after};
 
-use claims::Verdict;
-
 // What comes back where an answer differs. No code is above 0.
 const DIFFERS: i32 = 1;
 
 // A claim to a log on the machine that a setup byte asks for, and the lowest record whose answer differs.
+#[tactic(auto, unfolding(crate::specs::Call::result_of, crate::specs::Call::record_after))]
 pub fn hubcrackle_check(setup: u8, log: &[u8], claim: &[u8], record: &mut u32) -> i32
     ensures result { result ≡ result_of (judged setup log.now claim.now) }
     ensures record { «record».new
         ≡ record_after (judged setup log.now claim.now) «record».old }
 {
-    let verdict = claims::check(setup, log, claim);
-    match verdict {
-        Verdict::Right => error::OK,
-        Verdict::Differs(k) => {
+    match claims::check(setup, log, claim) {
+        Ok(None) => error::OK,
+        Ok(Some(k)) => {
             *record = k;
             DIFFERS
         }
-        Verdict::Refused(code) => error::number(code),
+        Err(why) => i32::from(why),
     }
 }

@@ -125,11 +125,7 @@ fn compare(
     let k = crate::unhex(claim, &mut claimed);
     crate::verdict(
         rt,
-        as_expected(
-            front_of(&input, n),
-            front_of(&claimed, k),
-            stored,
-        ),
+        as_expected(front_of(&input, n), front_of(&claimed, k), stored),
     )
 }
 

@@ -75,7 +75,12 @@ fn goes_on(at: usize, end: usize, pieces: u32) -> bool {
 
 // Feeds a log that is cut in one way, its answers one after the other into the room. Says how many bytes of answers were written and how the log ended,
 // unless a fragment was refused or the log was not taken whole.
-fn feed_cut(m: Machine, log: &[u8], cuts: Cuts, out: &mut [u8]) -> Option<(usize, Result<(), Refusal>)> {
+fn feed_cut(
+    m: Machine,
+    log: &[u8],
+    cuts: Cuts,
+    out: &mut [u8],
+) -> Option<(usize, Result<(), Refusal>)> {
     let mut form = feed::start(m).ok()?;
     let mut at = 0;
     let mut done = 0;
@@ -127,7 +132,13 @@ fn in_two(m: Machine, log: &[u8], expected: &[u8], end: Result<(), Refusal>) -> 
 }
 
 // Cut at random places, in several rounds.
-fn at_random(m: Machine, log: &[u8], spread: u32, expected: &[u8], end: Result<(), Refusal>) -> bool {
+fn at_random(
+    m: Machine,
+    log: &[u8],
+    spread: u32,
+    expected: &[u8],
+    end: Result<(), Refusal>,
+) -> bool {
     (0..ROUNDS).all(|seed| {
         let cuts = Cuts {
             first: seed as usize,
@@ -169,7 +180,12 @@ fn refused(why: Refusal, expected: &[u8]) -> bool {
 fn cut_off(m: Machine, input: &[u8], whole: usize) -> bool {
     let mut out = [0u8; program::MAX_ANSWER_BYTES];
     let size = program::respond(front_of(input, whole), &mut out).unwrap_or(0);
-    every_way(m, rest_of(input, 1), front_of(&out, size), Err(Refusal::Einval))
+    every_way(
+        m,
+        rest_of(input, 1),
+        front_of(&out, size),
+        Err(Refusal::Einval),
+    )
 }
 
 // Whether an input in fragments has the answers that are expected of it whole. A setup byte that is missing or bad is refused before any feed.
