@@ -6,7 +6,7 @@
 mod checks;
 mod pieces;
 
-ghost use Rattle.std.specs.Prelude.{◌*◌, ◌+◌, ◌≤◌, ◌<◌, length};
+ghost use Rattle.std.specs.Prelude.{◌≤◌, ◌<◌, length, IfSome};
 
 use reading::{byte_at, front_of, rest_of, word_at};
 use std::fs::File;
@@ -24,7 +24,9 @@ fn put(rt: &impl Print, text: &[u8]) -> io::Result<()> {
 }
 
 // What stands before the first byte of this kind, and what stands behind it, if it is there.
-fn split_once(text: &[u8], byte: u8) -> (&[u8], Option<&[u8]>) {
+fn split_once(text: &[u8], byte: u8) -> (&[u8], Option<&[u8]>)
+    ensures { IfSome result.1 (λ behind. length behind.now < length text.now) }
+{
     match text.iter().position(|b| *b == byte) {
         Some(at) => (front_of(text, at), text.get(at + 1..)),
         None => (text, None),
