@@ -61,7 +61,7 @@ module _ (m : Machine) (log : List ℕ) (a : ℕ) (long : a * 12 ≤ length log)
   answers_front k = ap (take (a * 8)) (cut k) ∙ take_at first (others k) (a * 8) (answers_length m (take (a * 12) log) a)
 
 -- A part of the front of a list is that part of the list.
-take_in : (k j n : ℕ) (l : List ℕ) → j + k ≤ n → take k (drop j (take n l)) ≡ take k (drop j l)
+pub take_in : (k j n : ℕ) (l : List ℕ) → j + k ≤ n → take k (drop j (take n l)) ≡ take k (drop j l)
 take_in k zero n l h = take-take k n l (omega (arith, h))
 take_in k (suc j) zero l h = absurd (omega (arith, h))
 take_in k (suc j) (suc n) [] h = refl

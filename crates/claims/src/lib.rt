@@ -37,6 +37,10 @@ fn lowest_differing(claimed: &[u8], right: &[u8]) -> Option<usize>
         let found = lowest (differing claimed.now right.now) records in
         MatchOption result (found ≡ records) (λ k. (k ≡ found) × (k < records)) }
 {
+    // All bytes at once are compared faster than one answer after the other, and most often none differs.
+    if right.starts_with(claimed) {
+        return None;
+    }
     let (claimed, _) = claimed.as_chunks::<ANSWER_BYTES>();
     let (right, _) = right.as_chunks::<ANSWER_BYTES>();
     claimed

@@ -44,7 +44,7 @@ fn form_of(bytes: &[u8]) -> Result<Form, Refusal>
     }
     let machine = machine_bytes::machine_of(bytes)?;
     let mut pending = [0; PENDING_BYTES];
-    pending.copy_from_slice(&bytes[PENDING_AT..COUNT_AT]);
+    pending.copy_from_slice(&bytes[PENDING_AT..PENDING_AT + PENDING_BYTES]);
     Ok(Form {
         machine,
         pending,
@@ -63,7 +63,7 @@ fn put_form(out: &mut [u8], form: &Form) -> Result<(), Refusal>
         return Err(Refusal::Enomem);
     }
     machine_bytes::put_machine(out, form.machine)?;
-    out[PENDING_AT..COUNT_AT].copy_from_slice(&form.pending);
+    out[PENDING_AT..PENDING_AT + PENDING_BYTES].copy_from_slice(&form.pending);
     out[COUNT_AT] = form.count as u8;
     Ok(())
 }

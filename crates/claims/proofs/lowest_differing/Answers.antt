@@ -1,9 +1,13 @@
--- The pairs of answers are the chunks of the two strings side by side, and `position` finds the first that differs (`Bytes`). Assumes nothing.
-use Rattle.std.proofs.Common.{◌/◌, ◌≤◌, length, rules, tests, arith}
+-- None differs where all bytes are the same. Else the pairs of answers are the chunks of the two strings side by side, and `position` finds the
+-- first that differs (`Bytes`). Assumes nothing.
+use Rattle.std.proofs.Common.{◌/◌, ◌≤◌, length, sym, ◌∙◌, rules, tests, arith}
 use Rattle.std.proofs.lemmas.Iterator.{YieldsList-from_slice, YieldsList-from_zip}
 use Rattle.std.proofs.lemmas.Iterator.Search.{position_from_yields_List}
-use Rattle.claims.proofs.Bytes.{differ, place_says}
+use Rattle.claims.proofs.Bytes.{differ, place_says, front_same}
 use Rattle.claims.proofs.lowest_differing.Goals as goal
+
+pub returns-then-starts_with : goal.returns-then-starts_with
+returns-then-starts_with c = front_same c.args.claimed.now c.args.right.now (sym c.starts_with.ensures.value ∙ c.if-starts_with.true)
 
 pub returns : goal.returns
 returns c =
