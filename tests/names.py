@@ -21,7 +21,7 @@ DOCUMENTS = ["README.md", "docs/RULES.md", "docs/CONTRACTS.md", "docs/EXCEPTIONS
 FOREIGN = {
     "requires": "a word of the language", "ensures": "a word of the language", "true": "a word of the language",
     "result": "what a call returns", "now": "what lent bytes are", "old": "what they are when a call begins", "new": "when it returns",
-    "Option": "a library type of upstream", "Result": "a library type of upstream",
+    "Option": "a library type", "Result": "a library type",
     "self": "a word of the language", "mut": "a word of the language", "inv": "upstream's", ".antt": "the ending of the files of definitions and proofs",
     "rt": "the kit's command", "od": "a command of the system", "xargs": "a command of the system",
     "N passed, 0 failed": "the last line of the kit's gate",

@@ -53,7 +53,7 @@ pub const ROWS: [[&str; 4]; 16] = [
     [
         "every call on a lock record",
         "requires a valid record",
-        "EINVAL, in the calls that only read too; the record comes back as given, the readers answer 0, none or no",
+        "EINVAL, in the calls that only read too; the record stays as it was, and the readers have 0, none or no",
         "each `requires` becomes a refusal",
     ],
     ["release_check", "named in the header, in no file", "yes exactly if the thread owns the record, as is_owner", "01 supplies it"],
@@ -67,7 +67,7 @@ pub const ROWS: [[&str; 4]; 16] = [
     [
         "cpu_mask_mod, exported",
         "a refusal hands back the current mask",
-        "a refusal leaves the room as it was; the call by value hands the mask back",
+        "a refusal leaves the room as it was; the rule has the current mask",
         "an exported call has a value on OK only",
     ],
     [
