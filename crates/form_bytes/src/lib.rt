@@ -68,15 +68,21 @@ fn put_form(out: &mut [u8], form: &Form) -> Result<(), Refusal>
     Ok(())
 }
 
-// A form with nothing pending, on the machine that a setup byte asks for, over the front of the room.
+// A form with nothing pending, on the machine that a setup byte asks for, over the front of the room. By `?` machine and form would be copied twice
+// more each, which is 16 KB of stack.
 pub fn start_form(setup: u8, out: &mut [u8]) -> Result<(), Refusal>
     ensures code { number_of result ≡ start_code setup (length out.old) }
     ensures room { out.new ≡ start_room setup out.old }
     ensures back { form_of out.new ≡ start_form setup out.old }
 {
-    let machine = machine::from_setup_byte(setup)?;
-    let form = feed::start(machine)?;
-    put_form(out, &form)
+    let machine = match machine::from_setup_byte(setup) {
+        Ok(machine) => machine,
+        Err(why) => return Err(why),
+    };
+    match feed::start(machine) {
+        Ok(form) => put_form(out, &form),
+        Err(why) => Err(why),
+    }
 }
 
 // A fragment, its answers into lent room, on the form in front of the bytes: how many records were run.

@@ -11,11 +11,13 @@ ghost use Rattle.setup_run.specs.Run.{code_from_setup, room_from_setup};
 
 use error::Refusal;
 
-// The answers of a log over the front of the room, and the code.
+// The answers of a log over the front of the room, and the code. By `?` the machine would be copied twice more, which is 8 KB of stack.
 pub fn run_from_setup(setup: u8, log: &[u8], out: &mut [u8]) -> Result<(), Refusal>
     ensures code { number_of result ≡ code_from_setup setup log.now (length out.old) }
     ensures room { out.new ≡ room_from_setup setup log.now out.old }
 {
-    let mut machine = machine::from_setup_byte(setup)?;
-    runner::run(&mut machine, log, out)
+    match machine::from_setup_byte(setup) {
+        Ok(mut machine) => runner::run(&mut machine, log, out),
+        Err(why) => Err(why),
+    }
 }
