@@ -63,6 +63,7 @@ fn lowest_wrong(mut m: Machine, log: &[u8], claim: &[u8]) -> Option<u32>
         .chunks(BLOCK_RECORDS * RECORD_BYTES)
         .zip(claim.chunks(BLOCK_BYTES));
     for (block, (records, claimed)) in blocks.enumerate() {
+        // As many whole records as there are answers to compare.
         let whole = claimed.len() / ANSWER_BYTES * RECORD_BYTES;
         let _ = runner::run(&mut m, &records[..whole], &mut room);
         if let Some(k) = lowest_differing(claimed, &room) {

@@ -18,5 +18,5 @@ returns c =
     let more : length a / 8 ≤ length b / 8 = omega arith in
     place_says a b (length a / 8) xs ys c.as_chunks.ensures.front (length b / 8) c.as_chunks-2.ensures.front more
     c.as_chunks.ensures.front_len c.as_chunks-2.ensures.front_len c.position.result
-    (position_from_yields_List differ c.position.new.self _ c.position.result c.position.ensures.ran (YieldsList-from_zip (YieldsList-from_slice xs (cc)) (YieldsList-from_slice ys (cc)))
-    (λ x r q k. search (rules, tests)))
+    (position_from_yields_List differ c.position.new.self _ c.position.result c.position.ensures.ran
+    (YieldsList-from_zip (YieldsList-from_slice xs (cc)) (YieldsList-from_slice ys (cc))) (λ x r q k. search (rules, tests)))
