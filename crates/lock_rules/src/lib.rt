@@ -24,7 +24,7 @@ ghost use Rattle.rules.specs.Rules.{
 
 use error::Refusal;
 use machine::{Cpu, CpuId, Lock, Setup, ThreadId};
-use rules::Refused;
+use rules::Answered;
 use spinlock::{Operation, SpinlockState};
 
 // A thread that asks for a lock, on a CPU that the machine has.
@@ -85,20 +85,20 @@ pub fn on_lock(
     c: CpuId,
     cpu: &mut Cpu,
     lock: &mut Lock,
-) -> Result<u32, Refused>
+) -> Answered
     ensures { (answered_says result, (cpu.new, lock.new))
         ≡ ranged (has_cpu setup c.0) (cpu.old, lock.old) (on_lock setup operation c.0 cpu.old lock.old) }
 {
     if !setup.has_cpu(c) {
-        return Err(Refused::from(Refusal::Einval));
+        return Answered::from(Err(Refusal::Einval));
     }
     let value = lock.state.nest_count;
     let thread = match cpu.run.current {
         Some(t) if t.exists() => t,
-        _ => return Err(Refused {
-            why: Refusal::Einval,
-            value,
-        }),
+        _ => {
+            let code = Err(Refusal::Einval);
+            return Answered { code, value };
+        }
     };
     let asker = Asker {
         setup,
@@ -106,14 +106,20 @@ pub fn on_lock(
         thread,
     };
     match asker.ruled(operation, *lock) {
-        Err(why) => Err(Refused { why, value }),
+        Err(why) => {
+            let code = Err(why);
+            Answered { code, value }
+        }
         Ok(next) => {
             *lock = Lock {
                 state: next,
                 word: asker.word_after(*lock, next),
             };
             cpu.hold = rules::moved(operation, cpu.hold);
-            Ok(next.nest_count)
+            Answered {
+                code: Ok(()),
+                value: next.nest_count,
+            }
         }
     }
 }

@@ -3,7 +3,7 @@
 use Rattle.machine.specs.declared.ThreadId.{ThreadId}
 use Rattle.machine.specs.declared.CpuId.{CpuId}
 use Rattle.std.specs.Prelude.{ℕ, zero, suc, ◌+◌, ◌-◌, ◌%◌, ◌^◌, Bool, true, false, ◌&&◌, ◌||◌, not, cond, List, [], ◌∷◌, ◌++◌, map, eqb, ltb, ℤ, get_or, Option, None, Some, Result, Ok, Err}
-use Rattle.error.specs.Codes.{OK, EPERM, EBUSY, EINVAL, EALREADY, refusal_number, is_ok}
+use Rattle.error.specs.Codes.{OK, EPERM, EBUSY, EINVAL, EALREADY, number_of, refusal_number, is_ok}
 use Rattle.error.specs.Answer.{Answer, answer}
 use Rattle.error.specs.declared.Refusal.{Refusal}
 use Rattle.words.specs.Bit.{bit, bit_not}
@@ -23,12 +23,11 @@ use Rattle.machine.specs.declared.Thread.{Thread}
 use Rattle.machine.specs.declared.Lock.{Lock}
 use Rattle.record.specs.declared.CpuOperation.{CpuOperation}
 use Rattle.record.specs.declared.ThreadOperation.{ThreadOperation}
-use Rattle.rules.specs.declared.Refused.{Refused}
+use Rattle.rules.specs.declared.Answered.{Answered}
 
--- What an answer says: OK with its value, or the number of the refusal with the value that stands after the unchanged call.
-abbrev pub answered_says : Result ℕ Refused → Answer ℕ
-answered_says (Ok value) = answer OK value
-answered_says (Err refused) = answer (refusal_number refused.why) refused.value
+-- What an answer says: a code and a value.
+abbrev pub answered_says : Answered → Answer ℕ
+answered_says a = answer (number_of a.code) a.value
 
 -- An answer with value 0, and the cells after it: new ones, or on a refusal those before it.
 abbrev pub cells_say : {W : Type 0} → W → Result W Refusal → Answer ℕ × W

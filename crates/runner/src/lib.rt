@@ -13,14 +13,14 @@ ghost use Rattle.machine.specs.State.{setup_ok, has_cpu};
 ghost use Rattle.rules.specs.Rules.{answered_says, given_back};
 ghost use Rattle.operations.specs.Asked.{answered, next};
 ghost use Rattle.operations.specs.Log.{record_at, state_at};
-ghost use Rattle.runner.specs.Step.{stepped_says, step as Step-step};
+ghost use Rattle.runner.specs.Step.{step as Step-step};
 ghost use Rattle.runner.specs.Run.{written_at, room_at, ran, ran_room};
 
 use answers::ANSWER_BYTES;
 use error::Refusal;
 use machine::{CpuId, FREE_LOCK, LOCKS, Lock, Machine, Setup};
 use record::{Operation, RECORD_BYTES};
-use rules::Refused;
+use rules::Answered;
 
 // Every lock whose word names the CPU is given back.
 fn give_back(setup: Setup, c: CpuId, locks: &mut [Lock; LOCKS])
@@ -34,7 +34,7 @@ fn give_back(setup: Setup, c: CpuId, locks: &mut [Lock; LOCKS])
 }
 
 // What a record answers, and what it does to the machine.
-fn answer_record(m: &mut Machine, bytes: &[u8]) -> Result<u32, Refused>
+fn answer_record(m: &mut Machine, bytes: &[u8]) -> Answered
     requires { setup_ok m.old.setup ≡ true }
     ensures answer { answered_says result ≡ answered m.old bytes.now }
     ensures machine { m.new ≡ next m.old bytes.now }
@@ -45,12 +45,12 @@ fn answer_record(m: &mut Machine, bytes: &[u8]) -> Result<u32, Refused>
     let t = request.thread;
     let l = request.lock;
     match request.operation {
-        Operation::Malformed => Err(Refused::from(Refusal::Einval)),
+        Operation::Malformed => Answered::from(Err(Refusal::Einval)),
         Operation::OnCpu(asked) => {
             let cpu = &mut m.cpus[c.0 as usize];
             let thread = &mut m.threads[t.0 as usize];
-            cpu_rules::on_cpu(setup, asked, c, t, cpu, thread)?;
-            Ok(0)
+            let code = cpu_rules::on_cpu(setup, asked, c, t, cpu, thread);
+            Answered { code, value: 0 }
         }
         Operation::OnLock(asked) => {
             let cpu = &mut m.cpus[c.0 as usize];
@@ -62,28 +62,29 @@ fn answer_record(m: &mut Machine, bytes: &[u8]) -> Result<u32, Refused>
             thread_rules::on_thread(setup, asked, c, thread)
         }
         Operation::Ipi => {
-            let mask = thread_rules::ipi(setup, c, m.cpus, m.threads[t.0 as usize])?;
-            Ok(mask)
+            let mask = thread_rules::ipi(setup, c, m.cpus, m.threads[t.0 as usize]);
+            Answered::from(mask)
         }
-        Operation::Owner => Ok(lock_rules::owner(m.locks[l.0 as usize])),
+        Operation::Owner => Answered::from(Ok(lock_rules::owner(m.locks[l.0 as usize]))),
         Operation::Unwind => {
-            let held = unwind_rules::unwind(setup, c, t, &mut m.cpus[c.0 as usize])?;
-            give_back(setup, c, &mut m.locks);
-            Ok(held)
+            match unwind_rules::unwind(setup, c, t, &mut m.cpus[c.0 as usize]) {
+                Ok(held) => {
+                    give_back(setup, c, &mut m.locks);
+                    Answered::from(Ok(held))
+                }
+                Err(why) => Answered::from(Err(why)),
+            }
         }
     }
 }
 
 // The answer to record k, written into the rest of the room from its place on.
-fn put_answer_at(out: &mut [u8], k: usize, answer: Result<u32, Refused>)
+fn put_answer_at(out: &mut [u8], k: usize, answer: Answered)
     requires { k * 8 ≤ length out.old }
     ensures { out.new ≡ written_at (k * 8) (answered_says answer) out.old }
 {
     let to = k * ANSWER_BYTES;
-    let _ = match answer {
-        Ok(value) => answers::put_answer(&mut out[to..], Ok(()), value),
-        Err(refused) => answers::put_answer(&mut out[to..], Err(refused.why), refused.value),
-    };
+    let _ = answers::put_answer(&mut out[to..], answer.code, answer.value);
 }
 
 // Every record of a log on a machine that has been found well-formed, with room for every answer.
@@ -101,14 +102,13 @@ fn run_records(m: &mut Machine, log: &[u8], out: &mut [u8])
 }
 
 // One record on any machine.
-pub fn step(mut m: Machine, bytes: &[u8]) -> Result<(u32, Machine), Refused>
-    ensures { stepped_says m result ≡ Step-step m bytes.now }
+pub fn step(m: &mut Machine, bytes: &[u8]) -> Answered
+    ensures { (answered_says result, m.new) ≡ Step-step m.old bytes.now }
 {
-    if !wellformed::well_formed(&m) || bytes.len() != RECORD_BYTES {
-        return Err(Refused::from(Refusal::Einval));
+    if !wellformed::well_formed(m) || bytes.len() != RECORD_BYTES {
+        return Answered::from(Err(Refusal::Einval));
     }
-    let value = answer_record(&mut m, bytes)?;
-    Ok((value, m))
+    answer_record(m, bytes)
 }
 
 // A log on any machine, its answers into lent room.

@@ -33,22 +33,25 @@ use error::Refusal;
 use ipi::CpuRecord;
 use machine::{CPU_SLOTS, Cpu, CpuId, Setup, Thread};
 use record::ThreadOperation;
-use rules::Refused;
+use rules::Answered;
 
 // The thread has the mask that the mask rule gave, or the one that it had.
-fn remask(thread: &mut Thread, mask: Result<u32, Refusal>) -> Result<u32, Refused>
+fn remask(thread: &mut Thread, mask: Result<u32, Refusal>) -> Answered
     ensures { (answered_says result, thread.new)
         ≡ applied_to thread.old (Rules·remasked thread.old (says thread.old.mask mask)) }
 {
     match mask {
         Ok(mask) => {
             thread.mask = mask;
-            Ok(mask)
+            Answered {
+                code: Ok(()),
+                value: mask,
+            }
         }
-        Err(why) => Err(Refused {
-            why,
+        Err(why) => Answered {
+            code: Err(why),
             value: thread.mask,
-        }),
+        },
     }
 }
 
@@ -92,14 +95,14 @@ fn pinned(setup: Setup, c: CpuId, thread: Thread) -> Result<u32, Refusal>
 
 // 9: a thread's priority is set.
 #[tactic(auto, unfolding(rules::specs::Rules::priority))]
-fn set_priority(thread: &mut Thread, a: i32) -> Result<u32, Refused>
+fn set_priority(thread: &mut Thread, a: i32) -> Answered
     ensures { (answered_says result, thread.new) ≡ applied_to thread.old (Rules·priority a thread.old) }
 {
     if thread.place.is_some() {
-        return Err(Refused::from(Refusal::Ebusy));
+        return Answered::from(Err(Refusal::Ebusy));
     }
     thread.priority = a;
-    Ok(0)
+    Answered::from(Ok(0))
 }
 
 // Whether a priority is one that a record may carry.
@@ -119,12 +122,12 @@ pub fn on_thread(
     operation: ThreadOperation,
     c: CpuId,
     thread: &mut Thread,
-) -> Result<u32, Refused>
+) -> Answered
     ensures { (answered_says result, thread.new)
         ≡ ranged (has_cpu setup c.0 && Rules·carriable operation) thread.old (on_thread setup operation c.0 thread.old) }
 {
     if !(setup.has_cpu(c) && carriable(operation)) {
-        return Err(Refused::from(Refusal::Einval));
+        return Answered::from(Err(Refusal::Einval));
     }
     match operation {
         ThreadOperation::Mask { enable, disable } => {

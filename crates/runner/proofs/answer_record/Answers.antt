@@ -1,20 +1,17 @@
 -- Each arm's answer and machine are the record's, by the law of its family (Turned.antt): the record's numbers are in range, so that no rule
 -- refuses them. Assumes nothing.
-use mathlib.Core.Path.{refl, ap, ◌∙◌}
-use Rattle.std.specs.Prelude.{Err}
+use mathlib.Core.Path.{refl, ◌∙◌}
 use borrow.Author.Rules.{rules}
 use Rattle.error.proofs.Answers.{refusal_refuses}
-use Rattle.rules.specs.Rules.{answered_says}
-use Rattle.rules.specs.declared.Refused.{Refused}
 use Rattle.operations.proofs.Lengths.{Lengths}
-use Rattle.runner.proofs.Turned.{refused_says, malformed_ran, cpu_ran, lock_ran, thread_ran, ipi_ran, owner_ran, unwind_ran, unwind_refused_ran}
+use Rattle.runner.proofs.Turned.{malformed_ran, cpu_ran, lock_ran, thread_ran, ipi_ran, owner_ran, unwind_ran, unwind_refused_ran}
 use Rattle.runner.proofs.answer_record.Goals as goal
 
 pub returns-in-Malformed-clause-answer : goal.returns-in-Malformed-clause-answer
 returns-in-Malformed-clause-answer c =
     let r = c.request_of-request in
     let turn = malformed_ran c.args.m.now refl c.requires c.args.bytes.now r.result r.ensures.request c.in-Malformed.is in
-    ap (λ (x : Refused). answered_says (Err x)) c.from.ensures ∙ turn.says
+    c.from.ensures ∙ turn.says
 
 pub returns-in-Malformed-clause-machine : goal.returns-in-Malformed-clause-machine
 returns-in-Malformed-clause-machine c =
@@ -22,28 +19,16 @@ returns-in-Malformed-clause-machine c =
     let turn = malformed_ran c.args.m.now refl c.requires c.args.bytes.now r.result r.ensures.request c.in-Malformed.is in
     turn.leaves
 
-pub returns-in_err-on_cpu-in-OnCpu-clause-answer : goal.returns-in_err-on_cpu-in-OnCpu-clause-answer
-returns-in_err-on_cpu-in-OnCpu-clause-answer c =
+pub returns-in-OnCpu-clause-answer : goal.returns-in-OnCpu-clause-answer
+returns-in-OnCpu-clause-answer c =
     let r = c.request_of-request in
-    let turn = cpu_ran c.args.m.now refl c.requires c.args.bytes.now r.result r.ensures.request c.in-OnCpu.is _ c.in_err-on_cpu-in-OnCpu.ensures in
-    refused_says _ c.from_residual.result c.from_residual.ensures.1 ∙ turn.says
-
-pub returns-in_err-on_cpu-in-OnCpu-clause-machine : goal.returns-in_err-on_cpu-in-OnCpu-clause-machine
-returns-in_err-on_cpu-in-OnCpu-clause-machine c =
-    let r = c.request_of-request in
-    let turn = cpu_ran c.args.m.now refl c.requires c.args.bytes.now r.result r.ensures.request c.in-OnCpu.is _ c.in_err-on_cpu-in-OnCpu.ensures in
-    turn.leaves
-
-pub returns-in_ok-on_cpu-in-OnCpu-clause-answer : goal.returns-in_ok-on_cpu-in-OnCpu-clause-answer
-returns-in_ok-on_cpu-in-OnCpu-clause-answer c =
-    let r = c.request_of-request in
-    let turn = cpu_ran c.args.m.now refl c.requires c.args.bytes.now r.result r.ensures.request c.in-OnCpu.is _ c.in_ok-on_cpu-in-OnCpu.ensures in
+    let turn = cpu_ran c.args.m.now refl c.requires c.args.bytes.now r.result r.ensures.request c.in-OnCpu.is _ c.on_cpu-code.ensures in
     turn.says
 
-pub returns-in_ok-on_cpu-in-OnCpu-clause-machine : goal.returns-in_ok-on_cpu-in-OnCpu-clause-machine
-returns-in_ok-on_cpu-in-OnCpu-clause-machine c =
+pub returns-in-OnCpu-clause-machine : goal.returns-in-OnCpu-clause-machine
+returns-in-OnCpu-clause-machine c =
     let r = c.request_of-request in
-    let turn = cpu_ran c.args.m.now refl c.requires c.args.bytes.now r.result r.ensures.request c.in-OnCpu.is _ c.in_ok-on_cpu-in-OnCpu.ensures in
+    let turn = cpu_ran c.args.m.now refl c.requires c.args.bytes.now r.result r.ensures.request c.in-OnCpu.is _ c.on_cpu-code.ensures in
     turn.leaves
 
 pub returns-in-OnLock-clause-answer : goal.returns-in-OnLock-clause-answer
@@ -70,35 +55,23 @@ returns-in-OnThread-clause-machine c =
     let turn = thread_ran c.args.m.now refl c.requires c.args.bytes.now r.result r.ensures.request c.in-OnThread.is _ c.on_thread.ensures in
     turn.leaves
 
-pub returns-in_err-mask-in-Ipi-clause-answer : goal.returns-in_err-mask-in-Ipi-clause-answer
-returns-in_err-mask-in-Ipi-clause-answer c =
+pub returns-in-Ipi-clause-answer : goal.returns-in-Ipi-clause-answer
+returns-in-Ipi-clause-answer c =
     let r = c.request_of-request in
-    let turn = ipi_ran c.args.m.now refl c.requires c.args.bytes.now r.result r.ensures.request c.in-Ipi.is _ c.in_err-mask-in-Ipi.ensures in
-    refused_says _ c.from_residual-in_err-mask-in-Ipi.result c.from_residual-in_err-mask-in-Ipi.ensures.1 ∙ turn.says
+    let turn = ipi_ran c.args.m.now refl c.requires c.args.bytes.now r.result r.ensures.request c.in-Ipi.is _ c.ipi-mask.ensures in
+    c.from-in-Ipi.ensures ∙ turn.says
 
-pub returns-in_err-mask-in-Ipi-clause-machine : goal.returns-in_err-mask-in-Ipi-clause-machine
-returns-in_err-mask-in-Ipi-clause-machine c =
+pub returns-in-Ipi-clause-machine : goal.returns-in-Ipi-clause-machine
+returns-in-Ipi-clause-machine c =
     let r = c.request_of-request in
-    let turn = ipi_ran c.args.m.now refl c.requires c.args.bytes.now r.result r.ensures.request c.in-Ipi.is _ c.in_err-mask-in-Ipi.ensures in
-    turn.leaves
-
-pub returns-in_ok-mask-in-Ipi-clause-answer : goal.returns-in_ok-mask-in-Ipi-clause-answer
-returns-in_ok-mask-in-Ipi-clause-answer c =
-    let r = c.request_of-request in
-    let turn = ipi_ran c.args.m.now refl c.requires c.args.bytes.now r.result r.ensures.request c.in-Ipi.is _ c.in_ok-mask-in-Ipi.ensures in
-    turn.says
-
-pub returns-in_ok-mask-in-Ipi-clause-machine : goal.returns-in_ok-mask-in-Ipi-clause-machine
-returns-in_ok-mask-in-Ipi-clause-machine c =
-    let r = c.request_of-request in
-    let turn = ipi_ran c.args.m.now refl c.requires c.args.bytes.now r.result r.ensures.request c.in-Ipi.is _ c.in_ok-mask-in-Ipi.ensures in
+    let turn = ipi_ran c.args.m.now refl c.requires c.args.bytes.now r.result r.ensures.request c.in-Ipi.is _ c.ipi-mask.ensures in
     turn.leaves
 
 pub returns-in-Owner-clause-answer : goal.returns-in-Owner-clause-answer
 returns-in-Owner-clause-answer c =
     let r = c.request_of-request in
     let turn = owner_ran c.args.m.now refl c.requires c.args.bytes.now r.result r.ensures.request c.in-Owner.is _ c.owner.ensures in
-    turn.says
+    c.from-in-Owner.ensures ∙ turn.says
 
 pub returns-in-Owner-clause-machine : goal.returns-in-Owner-clause-machine
 returns-in-Owner-clause-machine c =
@@ -106,30 +79,30 @@ returns-in-Owner-clause-machine c =
     let turn = owner_ran c.args.m.now refl c.requires c.args.bytes.now r.result r.ensures.request c.in-Owner.is _ c.owner.ensures in
     turn.leaves
 
-pub returns-in_err-held-in-Unwind-clause-answer : goal.returns-in_err-held-in-Unwind-clause-answer
-returns-in_err-held-in-Unwind-clause-answer c =
+pub returns-in-Ok-clause-answer : goal.returns-in-Ok-clause-answer
+returns-in-Ok-clause-answer c =
     let r = c.request_of-request in
     let made : Lengths c.args.m.now = record { cpus = search rules; threads = search rules; locks = search rules } in
-    let turn = unwind_refused_ran c.args.m.now refl c.requires c.args.bytes.now r.result r.ensures.request c.in-Unwind.is made _ c.in_err-held-in-Unwind.ensures (refusal_refuses _) in
-    refused_says _ c.from_residual-in_err-held-in-Unwind.result c.from_residual-in_err-held-in-Unwind.ensures.1 ∙ turn.says
+    let turn = unwind_ran c.args.m.now refl c.requires c.args.bytes.now r.result r.ensures.request c.in-Unwind.is made _ c.in-Ok.ensures refl _ c.give_back.ensures in
+    c.from-in-Ok.ensures ∙ turn.says
 
-pub returns-in_err-held-in-Unwind-clause-machine : goal.returns-in_err-held-in-Unwind-clause-machine
-returns-in_err-held-in-Unwind-clause-machine c =
+pub returns-in-Ok-clause-machine : goal.returns-in-Ok-clause-machine
+returns-in-Ok-clause-machine c =
     let r = c.request_of-request in
     let made : Lengths c.args.m.now = record { cpus = search rules; threads = search rules; locks = search rules } in
-    let turn = unwind_refused_ran c.args.m.now refl c.requires c.args.bytes.now r.result r.ensures.request c.in-Unwind.is made _ c.in_err-held-in-Unwind.ensures (refusal_refuses _) in
+    let turn = unwind_ran c.args.m.now refl c.requires c.args.bytes.now r.result r.ensures.request c.in-Unwind.is made _ c.in-Ok.ensures refl _ c.give_back.ensures in
     turn.leaves
 
-pub returns-in_ok-held-in-Unwind-clause-answer : goal.returns-in_ok-held-in-Unwind-clause-answer
-returns-in_ok-held-in-Unwind-clause-answer c =
+pub returns-in-Err-clause-answer : goal.returns-in-Err-clause-answer
+returns-in-Err-clause-answer c =
     let r = c.request_of-request in
     let made : Lengths c.args.m.now = record { cpus = search rules; threads = search rules; locks = search rules } in
-    let turn = unwind_ran c.args.m.now refl c.requires c.args.bytes.now r.result r.ensures.request c.in-Unwind.is made _ c.in_ok-held-in-Unwind.ensures refl _ c.give_back.ensures in
-    turn.says
+    let turn = unwind_refused_ran c.args.m.now refl c.requires c.args.bytes.now r.result r.ensures.request c.in-Unwind.is made _ c.in-Err.ensures (refusal_refuses _) in
+    c.from-in-Err.ensures ∙ turn.says
 
-pub returns-in_ok-held-in-Unwind-clause-machine : goal.returns-in_ok-held-in-Unwind-clause-machine
-returns-in_ok-held-in-Unwind-clause-machine c =
+pub returns-in-Err-clause-machine : goal.returns-in-Err-clause-machine
+returns-in-Err-clause-machine c =
     let r = c.request_of-request in
     let made : Lengths c.args.m.now = record { cpus = search rules; threads = search rules; locks = search rules } in
-    let turn = unwind_ran c.args.m.now refl c.requires c.args.bytes.now r.result r.ensures.request c.in-Unwind.is made _ c.in_ok-held-in-Unwind.ensures refl _ c.give_back.ensures in
+    let turn = unwind_refused_ran c.args.m.now refl c.requires c.args.bytes.now r.result r.ensures.request c.in-Unwind.is made _ c.in-Err.ensures (refusal_refuses _) in
     turn.leaves
