@@ -16,7 +16,8 @@ ghost use Rattle.owner_flags.specs.Flags.{compute_owner, decode_owner, lock_vali
 use error::Refusal;
 use spinlock_validate::{Held, Width};
 
-// The width that a flag asks for. Only the calls of a C kernel have it as a number.
+// The width that a flag asks for. Only the calls of a C kernel have it as a number. By a test and a choice: of a `match` on the number the compiler
+// makes a branch for each width, in the calls that answer yes or no too.
 fn width(wide: u32) -> Result<Width, Refusal>
     ensures { MatchResult result
         (λ width. (leb wide 1 ≡ true) × (width ≡ width_by (eqb wide 1)))
