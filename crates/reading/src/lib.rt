@@ -5,7 +5,8 @@
 
 #![tactic(auto)]
 
-ghost use Rattle.std.specs.Prelude.{◌≡◌, ◌+◌, ◌≤◌, [], ◌∷◌, length, take, drop, get_or, MatchResult};
+ghost use Rattle.std.specs.Prelude.{◌≡◌, ◌+◌, ◌≤◌, ◌<◌, [], ◌∷◌, length, take, drop, get_or, MatchResult, IfOk};
+ghost use Rattle.std.specs.Io.KnownBytes.{Consumes, IsAtEnd};
 ghost use Rattle.words.specs.HighFirst.{from_high_first};
 
 use std::io;
@@ -18,10 +19,14 @@ pub struct Failed {
     pub error: io::Error,
 }
 
-// Reads until the room is full or the input ends, and says how many bytes stand over the front of the room.
+// Reads until the room is full or the input ends, and says how many bytes stand over the front of the room. Where it is known what the input has
+// left, these are the bytes that were read, also where a read failed, and after a room that is not full nothing is left.
 pub fn fill<R: Read>(input: &mut R, room: &mut [u8]) -> Result<usize, Failed>
     ensures within { MatchResult result (λ size. size ≤ length room.new) (λ failed. failed.size ≤ length room.new) }
     ensures room { length room.new ≡ length room.old }
+    ensures bytes { MatchResult result (λ size. Consumes (R.remaining input.old) (R.remaining input.new) (take size room.new))
+        (λ failed. Consumes (R.remaining input.old) (R.remaining input.new) (take failed.size room.new)) }
+    ensures end { IfOk result (λ size. size < length room.new → IsAtEnd (R.remaining input.new)) }
 {
     let mut size = 0;
     while size < room.len() {

@@ -1,9 +1,12 @@
--- The size stays within the room, which keeps its length.
-use Rattle.std.proofs.Common.{length, ◌-◌, ◌≤◌, ◌≡◌}
+-- The size stays within the room, which keeps its length, and so many bytes of it are what was read.
+use Rattle.std.proofs.Common.{length, take, ◌-◌, ◌≤◌, ◌≡◌}
+use Rattle.std.specs.Io.KnownBytes.{Consumes}
 use Rattle.reading.proofs.fill.Given as goal
 
 abbrev pub invariant-loop-size : goal.invariant-loop-size
-invariant-loop-size g l = (l.size ≤ length l.room) × (length l.room ≡ length l.initial.room)
+invariant-loop-size g l =
+    (l.size ≤ length l.room) × (length l.room ≡ length l.initial.room)
+    × Consumes (g.R.Read.remaining l.initial.input) (g.R.Read.remaining l.input) (take l.size l.room)
 
 abbrev pub decreases-loop-size : goal.decreases-loop-size
 decreases-loop-size g l = length l.initial.room - l.size
