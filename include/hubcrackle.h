@@ -6,8 +6,8 @@
  * functions allocate nothing, keep no state between calls and call nothing but memcpy and memset, so any number of CPUs may be in them at once.
  *
  * The archives are plain System V code for every x86-64 processor: they may use SSE registers and the 128 bytes below the stack pointer. Call them
- * where both are allowed. As built now, hubcrackle_run takes about 11,100 bytes of stack, hubcrackle_start 18,300, hubcrackle_feed 18,800,
- * hubcrackle_finish 14,700 and hubcrackle_check 22,900, and every other function less than 512. A machine, with sixteen CPU slots in either width,
+ * where both are allowed. As built now, hubcrackle_run takes about 7,800 bytes of stack, hubcrackle_start 18,300, hubcrackle_feed 18,800,
+ * hubcrackle_finish 14,700 and hubcrackle_check 16,100, and every other function less than 512. A machine, with sixteen CPU slots in either width,
  * has 3,912 bytes, and they hold it on the stack. How long a call takes, where it is said below, was measured with an older kit's archives.
  *
  * Every function works in the same way.
@@ -231,7 +231,7 @@ int32_t hubcrackle_finish(const uint8_t *form, size_t form_len);
  * A caller accepts a claim on HUBCRACKLE_OK and on nothing else. `record` is written with HUBCRACKLE_DIFFERS alone: on OK and on every refusal it
  * stays as it was. It does not overlap `log` or `claim`.
  *
- * What it costs: its memory does not grow with the log. The answers are compared 1,024 at a time, in 22,900 bytes of stack however long the log is.
+ * What it costs: its memory does not grow with the log. The answers are compared 1,024 at a time, in 16,100 bytes of stack however long the log is.
  * A right claim to a long log takes about 1.1 times as long as hubcrackle_run of that log, and to a short one half a microsecond more. A wrong one
  * takes at most a few microseconds more: at most 1,023 records are run behind the one that differs. */
 int32_t hubcrackle_check(uint8_t setup, const uint8_t *log, size_t log_len, const uint8_t *claim, size_t claim_len, uint32_t *record);

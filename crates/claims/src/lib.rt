@@ -58,11 +58,11 @@ fn lowest_wrong(mut m: Machine, log: &[u8], claim: &[u8]) -> Option<u32>
         let found = lowest_wrong m log.now claim.now in
         MatchOption result (found ≡ records) (λ k. (k ≡ found) × (k < records)) }
 {
-    let mut room = [0; BLOCK_BYTES];
     let blocks = log
         .chunks(BLOCK_RECORDS * RECORD_BYTES)
         .zip(claim.chunks(BLOCK_BYTES));
     for (block, (records, claimed)) in blocks.enumerate() {
+        let mut room = [0; BLOCK_BYTES];
         // As many whole records as there are answers to compare.
         let whole = claimed.len() / ANSWER_BYTES * RECORD_BYTES;
         let _ = runner::run(&mut m, &records[..whole], &mut room);
@@ -87,11 +87,14 @@ fn size_code(size: usize, claimed: usize) -> Result<(), Refusal>
 }
 
 // A claim to a log on the machine that a setup byte asks for: the lowest record whose answer differs, if there is one. A refusal keeps the claim
-// from being judged.
+// from being judged. By `?` the machine would be copied once more, for a refusal too.
 pub fn check(setup: u8, log: &[u8], claim: &[u8]) -> Result<Option<u32>, Refusal>
     ensures { verdict_says result ≡ judged setup log.now claim.now }
 {
-    let machine = machine::from_setup_byte(setup)?;
+    let machine = match machine::from_setup_byte(setup) {
+        Ok(machine) => machine,
+        Err(why) => return Err(why),
+    };
     size_code(log.len(), claim.len())?;
     Ok(lowest_wrong(machine, log, claim))
 }

@@ -1,5 +1,5 @@
 -- 01, "What must change shape": IPI crosses the boundary as five bytes a CPU.
-use Rattle.std.specs.Prelude.{ℕ, zero, suc, ◌+◌, ◌*◌, Bool, true, ◌&&◌, cond, List, [], ◌∷◌, eqb, leb, ℤ, length, get_or, set, replicate}
+use Rattle.std.specs.Prelude.{◌≡◌, ℕ, zero, suc, ◌+◌, ◌*◌, ◌<◌, Bool, true, ◌&&◌, cond, List, [], ◌∷◌, eqb, leb, ℤ, length, get_or, set, replicate}
 use Rattle.error.specs.Codes.{EINVAL}
 use Rattle.error.specs.Answer.{Answer, answer}
 use Rattle.words.specs.HighFirst.{from_high_first}
@@ -23,6 +23,10 @@ cpu_of_bytes bs at =
 unfoldable pub cpus_of_bytes : List ℕ → ℕ → List CpuRecord
 cpus_of_bytes bs zero = replicate 16 no_cpu
 cpus_of_bytes bs (suc i) = set (cpus_of_bytes bs i) i (cpu_of_bytes bs (5 * i))
+
+-- An array has each of the first num CPUs in its place.
+abbrev pub InPlaces : List ℕ → ℕ → List CpuRecord → Type 0
+InPlaces bs num cpus = (i : ℕ) → i < num → get_or cpus i no_cpu ≡ cpu_of_bytes bs (5 * i)
 
 -- Active is 0 or 1, for each of the first num CPUs.
 unfoldable pub active_bytes : List ℕ → ℕ → Bool

@@ -108,7 +108,9 @@ pub fn feed(f: &mut Form, fragment: &[u8], out: &mut [u8]) -> Result<u32, Refusa
     ensures form { fed_says f.new result ≡ fed f.old fragment.now (length out.old) }
     ensures room { out.new ≡ fed_room f.old fragment.now out.old }
 {
-    run_arrived(f, fragment, out)?;
+    if let Err(why) = run_arrived(f, fragment, out) {
+        return Err(why);
+    }
     let count = f.count as usize;
     let size = count + fragment.len();
     let records = size / RECORD_BYTES;

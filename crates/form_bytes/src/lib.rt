@@ -2,7 +2,7 @@
 //
 // New here. Document 02, request 7. A form has 2,962 bytes: the machine's 2,950, as machine_bytes has them, then eleven places for pending
 // bytes, then how many are pending, 1 byte. A caller can rely on these: too few bytes are no form and are refused with EINVAL; a refusal changes
-// no lent byte; and the bytes after a call read as the form that feed gives by value.
+// no lent byte; and the bytes after a call read as the form that feed leaves.
 
 #![tactic(auto)]
 

@@ -3,7 +3,7 @@
 //
 // New here. Document 02, request 7. Their archive is one of its own: the loop and the test of well-formedness stand in each archive once, and
 // with a second caller there the compiler would no longer put them into hubcrackle_run, which would take more time and stack. A caller can rely on
-// these: a refusal changes no lent byte, and the bytes of a form read as the form that the call by value gives.
+// these: a refusal changes no lent byte, and the bytes of a form read as the form that the call on a form leaves.
 
 #![tactic(auto)]
 

@@ -250,5 +250,5 @@ impl TryFrom<u8> for Setup {
 pub fn from_setup_byte(byte: u8) -> Result<Machine, Refusal>
     ensures { says least_machine result ≡ State·setup byte }
 {
-    Ok(fresh_machine(Setup::try_from(byte)?))
+    fresh(Setup::try_from(byte)?)
 }

@@ -45,7 +45,7 @@ fn read_each<T: Field, const N: usize>(bytes: &[u8], at: usize) -> [T; N]
     )
 }
 
-// The machine in front of the bytes. Too few bytes are refused, with the fresh machine of n 1.
+// The machine in front of the bytes. Too few bytes are refused.
 pub fn machine_of(bytes: &[u8]) -> Result<Machine, Refusal>
     ensures { says least_machine result ≡ reading bytes.now }
 {

@@ -1,7 +1,7 @@
 -- The table by columns, a bit for each number below sixteen: the bits say what the rows say, and with the tests of zero, of a flag and of a
 -- priority they say what A and B may be. Assumes nothing.
-use mathlib.Core.Path.{◌≡◌, refl, sym}
-use mathlib.Core.Bool.{Bool, true, false, ◌&&◌, ◌||◌, not, false≢true}
+use mathlib.Core.Path.{◌≡◌, refl, sym, ap, ◌∙◌}
+use mathlib.Core.Bool.{Bool, true, false, ◌&&◌, ◌||◌, not, cond, false≢true}
 use Prim.Native.Nat.{ℕ, ◌<◌}
 use lib.Dec.{eqb, ltb}
 use borrow.Author.Tests.{not-true, eqb-true}
@@ -11,7 +11,24 @@ use Rattle.words.specs.Signed.{to_signed}
 use Rattle.words.proofs.Below.{all_at}
 use Rattle.words.proofs.Choice.{bool_ind}
 use Rattle.machine.specs.State.{is_priority}
-use Rattle.record.specs.Record.{Operand, none, flag, mask, priority, Row, row_of, operand_ok}
+use Rattle.record.specs.Record.{
+  Operand,
+  none,
+  flag,
+  mask,
+  priority,
+  Row,
+  row_of,
+  operand_ok,
+  fits,
+  request,
+  malformed,
+  carried,
+}
+use Rattle.record.specs.Rows.{operand_of, form_of}
+use Rattle.record.specs.declared.Fields.{Fields}
+use Rattle.record.specs.declared.Operation.{Operation}
+use Rattle.record.specs.declared.Row.{Row as CodeRow}
 
 -- A field takes a flag, a mask, or a priority.
 abbrev takes_flag : Operand → Bool
@@ -84,7 +101,7 @@ zero_fits x e = rw e
 zero_is_flag : (x : ℕ) → x ≡ 0 → true ≡ ltb x 2
 zero_is_flag x e = rw e
 
--- What the code asks of A or B is what its row says: zero, or what the columns let in.
+-- What a row says of A or B: zero, or what the columns let in.
 pub operand_says : (o : Operand) (x : ℕ)
     → ((eqb x 0 || (takes_flag o && ltb x 2)) || takes_mask o) || (takes_priority o && is_priority (to_signed 31 x)) ≡ operand_ok o x
 operand_says none x = bool_ind (λ t. ((t || false) || false) || false ≡ t) (eqb x 0) (λ _. refl) (λ _. refl)
@@ -105,3 +122,85 @@ mask_fact none x e f = bool_ind (λ t. t || false ≡ t) (eqb x 0) (λ _. refl) 
 mask_fact flag x e f = absurd (false≢true (sym e))
 mask_fact mask x e f = bool_ind (λ t. t || true ≡ true) (eqb x 0) (λ _. refl) (λ _. refl)
 mask_fact priority x e f = absurd (false≢true (sym f))
+
+-- What is asked of the fields, a bit for each: as the columns have it at a number, and as a row of the code has it.
+pub record Asked : Type 0 where
+  pub cpu : Bool
+  pub thread : Bool
+  pub lock : Bool
+  pub a_flag : Bool
+  pub a_mask : Bool
+  pub a_priority : Bool
+  pub b_flag : Bool
+  pub b_mask : Bool
+  pub b_priority : Bool
+
+abbrev pub by_columns : ℕ → Asked
+by_columns op =
+    record {
+      cpu = bit op 0x155f;
+      thread = bit op 0x178c;
+      lock = bit op 0x850;
+      a_flag = bit op 0x010;
+      a_mask = bit op 0x080;
+      a_priority = bit op 0x200;
+      b_flag = false;
+      b_mask = bit op 0x080;
+      b_priority = false;
+    }
+
+abbrev pub by_row : CodeRow → Asked
+by_row r =
+    record {
+      cpu = r.cpu;
+      thread = r.thread;
+      lock = r.lock;
+      a_flag = takes_flag (operand_of r.a);
+      a_mask = takes_mask (operand_of r.a);
+      a_priority = takes_priority (operand_of r.a);
+      b_flag = takes_flag (operand_of r.b);
+      b_mask = takes_mask (operand_of r.b);
+      b_priority = takes_priority (operand_of r.b);
+    }
+
+-- Two that let in the same flag, mask and priority ask for the same.
+same_operand : (o p : Operand) (x : ℕ) → takes_flag o ≡ takes_flag p → takes_mask o ≡ takes_mask p → takes_priority o ≡ takes_priority p
+    → operand_ok o x ≡ operand_ok p x
+same_operand o p x flags masks priorities = sym (operand_says o x) ∙ rw (flags, masks, priorities) (operand_says p x)
+
+-- A row of the code that has the columns' bits at an operation's number asks for what the table's row does.
+pub row_fits : (n : ℕ) (f : Fields) (op : ℕ) (r : CodeRow) → op < 16 → by_columns op ≡ by_row r → fits n (form_of r) f ≡ fits n (row_of op) f
+unfolding fits
+row_fits n f op r h e =
+    let t = columns op h in
+    let a =
+    same_operand (operand_of r.a) (row_of op).a f.a
+    (sym (ap (λ (k : Asked). k.a_flag) e) ∙ t.a_flag)
+    (sym (ap (λ (k : Asked). k.a_mask) e) ∙ t.a_mask)
+    (sym (ap (λ (k : Asked). k.a_priority) e) ∙ t.a_priority)
+    in
+    let b =
+    sym (mask_fact (operand_of r.b) f.b (sym (ap (λ (k : Asked). k.b_flag) e)) (sym (ap (λ (k : Asked). k.b_priority) e)))
+    ∙ ap (λ (m : Bool). eqb f.b 0 || m) (sym (ap (λ (k : Asked). k.b_mask) e) ∙ t.b_mask)
+    ∙ mask_fact (row_of op).b f.b t.b_flag t.b_priority
+    in
+    rw (
+      sym (ap (λ (k : Asked). k.cpu) e) ∙ t.cpu,
+      sym (ap (λ (k : Asked). k.thread) e) ∙ t.thread,
+      sym (ap (λ (k : Asked). k.lock) e) ∙ t.lock,
+      a,
+      b,
+    ) refl
+
+-- What the code makes of a record by a row that has the columns' bits is what the table's row of that number makes of it.
+pub arm_says : (n : ℕ) (f : Fields) (op : ℕ) (r : CodeRow) (asked : Operation)
+    → f.operation ≡ op
+    → op < 16
+    → by_columns op ≡ by_row r
+    → asked ≡ (row_of op).asks f.a f.b
+    → cond (fits n (form_of r) f) (request asked f.cpu f.thread f.lock) malformed
+    ≡ cond (fits n (row_of f.operation) f) (carried (row_of f.operation) f) malformed
+arm_says n f op r asked is h e asks =
+    ap (λ (t : Bool). cond t (request asked f.cpu f.thread f.lock) malformed) (row_fits n f op r h e)
+    ∙ ap (λ (o : Operation). cond (fits n (row_of op) f) (request o f.cpu f.thread f.lock) malformed) asks
+    ∙ ap (λ (k : ℕ). cond (fits n (row_of k) f) (carried (row_of k) f) malformed) (sym is)

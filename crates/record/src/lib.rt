@@ -227,7 +227,6 @@ fn formed(n: u32, row: Row, f: Fields, operation: Operation) -> Request
 
 // The request in the fields of a record whose fourth byte is zero: the table, row by row. Each row is a constant, so that a compiler works out
 // its form test.
-#[tactic(auto, unfolding(crate::specs::Record::row_of, crate::specs::Record::fits))]
 fn carried(n: u32, f: Fields) -> Request
     ensures { result ≡ cond (Record·fits n (row_of f.operation) f) (Record·carried (row_of f.operation) f) Record·malformed }
 {

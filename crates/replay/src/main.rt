@@ -16,5 +16,6 @@ fn main(rt: HostRuntime) -> io::Result<()> {
     let size = reading::fill(&mut rt.stdin(), &mut input).unwrap_or_else(|failed| failed.size);
     let mut out = [0u8; program::MAX_ANSWER_BYTES];
     let answered = program::respond(reading::front_of(&input, size), &mut out).unwrap_or(0);
-    rt.stdout().write_all(reading::front_of(&out, answered))
+    // By the trait's name, since the `write_all` of a stdout itself, which prints, gives up after so many interrupted writes.
+    Write::write_all(&mut rt.stdout(), reading::front_of(&out, answered))
 }

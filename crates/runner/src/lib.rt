@@ -33,13 +33,14 @@ fn give_back(setup: Setup, c: CpuId, locks: &mut [Lock; LOCKS])
     }
 }
 
-// What a record answers, and what it does to the machine.
-fn answer_record(m: &mut Machine, bytes: &[u8]) -> Answered
-    requires { setup_ok m.old.setup ≡ true }
+// What a record answers, and what it does to the machine. The machine's setup is handed over beside it: no record changes it, and what is asked of
+// it is then asked once for a whole log.
+fn answer_record(m: &mut Machine, setup: Setup, bytes: &[u8]) -> Answered
+    requires good_setup { setup_ok setup ≡ true }
+    requires same_setup { m.old.setup ≡ setup }
     ensures answer { answered_says result ≡ answered m.old bytes.now }
     ensures machine { m.new ≡ next m.old bytes.now }
 {
-    let setup = m.setup;
     let request = record::request_of(setup, bytes);
     let c = request.cpu;
     let t = request.thread;
@@ -94,9 +95,10 @@ fn run_records(m: &mut Machine, log: &[u8], out: &mut [u8])
     ensures machine { m.new ≡ state_at m.old log.now (length log.now / 12) }
     ensures room { out.new ≡ room_at m.old log.now out.old (length log.now / 12) }
 {
+    let setup = m.setup;
     for k in 0..log.len() / RECORD_BYTES {
         let at = k * RECORD_BYTES;
-        let answer = answer_record(m, &log[at..at + RECORD_BYTES]);
+        let answer = answer_record(m, setup, &log[at..at + RECORD_BYTES]);
         put_answer_at(out, k, answer);
     }
 }
@@ -108,7 +110,7 @@ pub fn step(m: &mut Machine, bytes: &[u8]) -> Answered
     if !wellformed::well_formed(m) || bytes.len() != RECORD_BYTES {
         return Answered::from(Err(Refusal::Einval));
     }
-    answer_record(m, bytes)
+    answer_record(m, m.setup, bytes)
 }
 
 // A log on any machine, its answers into lent room.

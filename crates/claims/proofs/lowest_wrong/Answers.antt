@@ -1,6 +1,7 @@
 -- Before each turn so many blocks are cut off log and claim, the machine has run their records, and no claimed answer of theirs differs.
 -- Assumes nothing.
 use Rattle.std.proofs.Common.{rules, arith, sym}
+use lib.ListN.{replicate}
 use lib.Seq.{length-take-le}
 use Rattle.operations.proofs.Lengths.{Lengths}
 use Rattle.claims.proofs.Turns.{none_yet, sizes, next, named, all_right, either}
@@ -24,7 +25,7 @@ loop-block-preserved c =
     let s = c.in-Some.ensures.steps.0 in (
       search rules,
       search rules,
-      next c.requires.claim_fits c.loop-block.invariant.2 _ _ _ _ s.0.1 s.1.1 made c.requires.formed c.requires.short_log c.loop-block.room (search rules)
+      next c.requires.claim_fits c.loop-block.invariant.2 _ _ _ _ s.0.1 s.1.1 made c.requires.formed c.requires.short_log (replicate 8192 0) (search rules)
           c.run.ensures.machine c.run.ensures.room c.in_default.ensures c.in-Some.ensures.steps.2 s.0.0 s.1.0,
     )
 
@@ -73,7 +74,7 @@ returns-in-Some-lowest_differing c =
     let found = c.in-Some-lowest_differing.ensures in
     let at = c.in-Some.ensures.steps.1 in
     let named_is =
-    named c.requires.claim_fits c.loop-block.invariant.2 _ _ _ _ s.0.1 s.1.1 made c.requires.formed c.requires.short_log c.loop-block.room (search rules)
+    named c.requires.claim_fits c.loop-block.invariant.2 _ _ _ _ s.0.1 s.1.1 made c.requires.formed c.requires.short_log (replicate 8192 0) (search rules)
     c.run.ensures.machine c.run.ensures.room (omega (arith, found)) in
     (omega (arith, named_is, found, at), omega (arith, z.ends, found, at))
 

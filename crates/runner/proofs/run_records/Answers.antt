@@ -15,8 +15,8 @@ pub loop-k-init : goal.loop-k-init
 unfolding state_at room_at
 loop-k-init c = search rules
 
-pub answer_record-answer-requires : goal.answer_record-answer-requires
-answer_record-answer-requires c = ap setup_ok c.loop-k.invariant.4 ∙ c.requires.good_setup
+pub answer_record-answer-requires-clause-same_setup : goal.answer_record-answer-requires-clause-same_setup
+answer_record-answer-requires-clause-same_setup c = c.loop-k.invariant.4
 
 pub loop-k-preserved : goal.loop-k-preserved
 loop-k-preserved c =

@@ -19,8 +19,8 @@ returns-then-not-well_formed c =
     ] in
     ap (λ (x : Answer ℕ). (x, m)) c.from.ensures ∙ refused
 
-pub answer_record-requires : goal.answer_record-requires
-answer_record-requires c = formed_setup c.args.m.now (sym c.if-not-well_formed.ensures)
+pub answer_record-requires-clause-good_setup : goal.answer_record-requires-clause-good_setup
+answer_record-requires-clause-good_setup c = formed_setup c.args.m.now (sym c.if-not-well_formed.ensures)
 
 pub returns : goal.returns
 returns c =
